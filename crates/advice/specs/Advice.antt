@@ -30,8 +30,8 @@ use Rattle.advice.specs.Least.{IsLeastLatency, IsLeastShare}
 use Rattle.advice.specs.Lines.{section_at}
 use Rattle.advice.specs.Periods.{period_text}
 use Rattle.advice.specs.PlanLines.{old_line_text, plan_line_text, shape_text, short_text, twice_text}
-use Rattle.advice.specs.Room.{due_of, planned_text, room_text, unplanned_text}
-use Rattle.advice.specs.Scripts.{script_text}
+use Rattle.advice.specs.Room.{due_of_tasks, planned_text, room_text, unplanned_text}
+use Rattle.advice.specs.Scripts.{script_fault_text}
 use Rattle.advice.specs.Sections.{sections_text}
 use Rattle.advice.specs.Steps.{bad_step_text, due_text, waits_text}
 use Rattle.advice.specs.Usage.{usage_text}
@@ -96,21 +96,21 @@ IsSameText section vcpu text = TellsOfDocument section (λ members. same_text me
 
 -- the text says what the vCPUs of a host with these budgets are due, and what all cores have
 abbrev pub TellsRoom : Host → List (Option Periodic) → List ℕ → Type 0
-TellsRoom host tasks text = text ≡ room_text (due_of tasks) (host.cores * ROUND)
+TellsRoom host tasks text = text ≡ room_text (due_of_tasks tasks) (host.cores * ROUND)
 
 -- the text is the advice on the host of this section, in which some vCPU has no room
 abbrev pub IsRoomText : List ℕ → List ℕ → Type 0
 IsRoomText section text = TellsOfTasks section TellsRoom text
 
 -- the host has a plan of `plan`
-abbrev pub HasPlan : Host → Type 0
-HasPlan host = (plan : PlanView) × IsPlanned host plan
+abbrev pub HostHasPlan : Host → Type 0
+HostHasPlan host = (plan : PlanView) × IsPlanned host plan
 
 -- the text says what the vCPUs are due, what all cores have, and whether `plan` has a plan
 abbrev pub TellsOfPlan : Host → List (Option Periodic) → List ℕ → Type 0
 TellsOfPlan host tasks text =
-    (HasPlan host × (text ≡ planned_text (due_of tasks) (host.cores * ROUND)))
-    ⊎ (¬ (HasPlan host) × (text ≡ unplanned_text (due_of tasks) (host.cores * ROUND)))
+    (HostHasPlan host × (text ≡ planned_text (due_of_tasks tasks) (host.cores * ROUND)))
+    ⊎ (¬ (HostHasPlan host) × (text ≡ unplanned_text (due_of_tasks tasks) (host.cores * ROUND)))
 
 -- the text is the advice on the host of this section, in which some vCPU has no room beside those that stay
 abbrev pub IsStayText : List ℕ → List ℕ → Type 0
@@ -122,8 +122,8 @@ TellsOfLine plan line host tasks text =
     text ≡ plan_line_text plan line host.cores (names_of host.vcpus) tasks
 
 -- the text is the advice on this line of the plan text, beside the host of this section
-abbrev pub IsPlanText : List ℕ → List ℕ → ℕ → List ℕ → Type 0
-IsPlanText section plan line text = TellsOfTasks section (TellsOfLine plan line) text
+abbrev pub IsPlanLineAdvice : List ℕ → List ℕ → ℕ → List ℕ → Type 0
+IsPlanLineAdvice section plan line text = TellsOfTasks section (TellsOfLine plan line) text
 
 -- the text is one of which this holds; where there is no such text, nothing is written
 abbrev pub WhereThereIs : (List ℕ → Type 0) → List ℕ → Type 0
@@ -142,7 +142,7 @@ IsNoRoomAdvice words section text =
 -- the advice on this line of a plan text, which `plan stay` reads without its host
 abbrev pub IsLineAdvice : List (List ℕ) → List ℕ → List ℕ → ℕ → List ℕ → Type 0
 IsLineAdvice words section plan line text = WhetherToStay words
-    (λ old. old ≡ old_line_text plan line) (WhereThereIs (IsPlanText section plan line)) text
+    (λ old. old ≡ old_line_text plan line) (WhereThereIs (IsPlanLineAdvice section plan line)) text
 
 -- the advice on a key of the host: of a known one what it has to be, whatever the document has
 abbrev pub IsHostKeyAdvice : List ℕ → Key → List ℕ → Type 0
@@ -187,7 +187,7 @@ plain_text words input (refusal.NoFit demand room) = room_text demand room
 plain_text words input (refusal.BadShape core place) = shape_text core place
 plain_text words input (refusal.Twice tick core other) = twice_text tick core other
 plain_text words input (refusal.Short period_no got cost) = short_text period_no got cost
-plain_text words input (refusal.Script fault) = script_text (section_at 1 input) fault
+plain_text words input (refusal.Script fault) = script_fault_text (section_at 1 input) fault
 plain_text words input (refusal.BadStep line) = bad_step_text (section_at 2 input) line
 plain_text words input (refusal.NotNow line due) = due_text (section_at 2 input) line due
 plain_text words input (refusal.Behind line who tick) = waits_text (section_at 2 input) line who tick

@@ -2,7 +2,7 @@
 use Rattle.std.specs.Prelude.{ℕ, ◌-◌, List, ◌++◌, codes, decimal, take}
 use Rattle.advice.specs.Lines.{line_at}
 use Rattle.advice.specs.Parts.{quoted}
-use Rattle.advice.specs.Places.{place_behind}
+use Rattle.advice.specs.Places.{place_after_all}
 use Rattle.advice.specs.declared.host_text.Place.{Place}
 
 -- the advice on a host section that is no TOML from this place on: the reader's message, and the line in
@@ -15,7 +15,7 @@ toml_text_at text place message = codes "tableau: host, line "
 
 -- the advice on a host section that is no TOML from this byte on, as the reader's message says
 abbrev pub toml_text : List ℕ → ℕ → List ℕ → List ℕ
-toml_text text at message = toml_text_at text (place_behind (take at text)) message
+toml_text text at message = toml_text_at text (place_after_all (take at text)) message
 
 -- the advice on a host of more than 256 vCPUs: how many to leave out
 abbrev pub many_text : ℕ → List ℕ

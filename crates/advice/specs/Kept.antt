@@ -4,8 +4,8 @@ use Rattle.tab_io.specs.Views.{SourceView}
 use Rattle.advice.specs.declared.kept.KeptSource.{KeptSource}
 
 -- the state of the source inside
-abbrev pub state_of : {S : Type 0} → (S → SourceView) → KeptSource S → SourceView
-state_of state kept = state kept.inner
+abbrev pub inner_state : {S : Type 0} → (S → SourceView) → KeptSource S → SourceView
+inner_state state kept = state kept.inner
 
 -- the bytes that were handed back last
 abbrev pub kept_of : {S : Type 0} → KeptSource S → List ℕ

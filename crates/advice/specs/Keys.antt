@@ -35,8 +35,8 @@ member_at number members = option_and_then as_table (option_and_then (get_item n
     (option_and_then as_array (get_member (codes "vcpu") members)))
 
 -- the name of the vCPU of a number in a host document, where it is a text
-abbrev pub name_at : ℕ → Members → Option (List ℕ)
-name_at number members = option_and_then as_str
+abbrev pub member_name : ℕ → Members → Option (List ℕ)
+member_name number members = option_and_then as_str
     (option_and_then (get_member (codes "name")) (member_at number members))
 
 -- the first key of a table that is none of these
@@ -52,12 +52,12 @@ is_two (Some (pos n)) = n == 2
 is_two (Some other) = false
 
 -- a host document of these members says that it is of format 2
-abbrev pub is_second : Members → Bool
-is_second members = is_two (option_and_then as_integer (get_member (codes "format") members))
+abbrev pub has_second_format : Members → Bool
+has_second_format members = is_two (option_and_then as_integer (get_member (codes "format") members))
 
 -- the keys of a host of the document's format
 abbrev pub host_keys : Members → List Key
-host_keys members = if is_second members then TickNs ∷ first_keys else first_keys
+host_keys members = if has_second_format members then TickNs ∷ first_keys else first_keys
 
 -- the advice on a known key of a host
 abbrev pub rule_text : Key → List ℕ
@@ -81,12 +81,12 @@ space_of (Some name) = codes " "
 -- the advice on a key of the vCPU of a number
 abbrev pub vcpu_key_text : ℕ → Key → Members → List ℕ
 vcpu_key_text number key members = codes "tableau: vcpu "
-    ++ (decimal number ++ (space_of (name_at number members) ++ (quote_of (name_at number members)
+    ++ (decimal number ++ (space_of (member_name number members) ++ (quote_of (member_name number members)
     ++ (codes ": " ++ (quote_of (other_in_vcpu key (member_at number members))
     ++ (vcpu_rule key ++ codes "\n"))))))
 
 -- the advice on a vCPU that has the name of an earlier one
 abbrev pub same_text : Members → ℕ → List ℕ
 same_text members number = codes "tableau: vcpu "
-    ++ (decimal number ++ (codes " " ++ (quote_of (name_at number members)
+    ++ (decimal number ++ (codes " " ++ (quote_of (member_name number members)
     ++ codes ": an earlier one has this name; rename one of them\n")))

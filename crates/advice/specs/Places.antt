@@ -11,5 +11,5 @@ place_after place byte = if byte == 10 then record { line = place.line + 1; colu
     else record { line = place.line; column = place.column + 1 })
 
 -- the place after these bytes of a text
-abbrev pub place_behind : List ℕ → Place
-place_behind front = fold place_after (record { line = 1; column = 1 }) front
+abbrev pub place_after_all : List ℕ → Place
+place_after_all front = fold place_after (record { line = 1; column = 1 }) front

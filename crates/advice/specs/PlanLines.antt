@@ -12,42 +12,42 @@ admitted_from number (None ∷ tasks) = admitted_from (number + 1) tasks
 admitted_from number (Some task ∷ tasks) = (number, task) ∷ admitted_from (number + 1) tasks
 
 -- the bad line of a plan text: its number, from 1, and the line itself in quotes
-abbrev pub found_text : List ℕ → ℕ → List ℕ
-found_text plan number = codes "tableau: plan line "
+abbrev pub found_line_text : List ℕ → ℕ → List ℕ
+found_line_text plan number = codes "tableau: plan line "
     ++ (decimal number ++ (codes " is " ++ (quoted (line_at number plan)
     ++ codes "; was the host changed since the plan was made?\n")))
 
 -- the first line of a plan text
-abbrev pub head_text : ℕ → ℕ → List ℕ
-head_text cores admitted = codes "tableau: wanted is plan cores "
+abbrev pub wanted_head_text : ℕ → ℕ → List ℕ
+wanted_head_text cores admitted = codes "tableau: wanted is plan cores "
     ++ (decimal cores ++ (codes " vcpus " ++ (decimal admitted ++ codes "\n")))
 
 -- the line of a vCPU of this name and budget
-abbrev pub vcpu_text : List ℕ → Periodic → List ℕ
-vcpu_text name task = codes "tableau: wanted is vcpu "
+abbrev pub wanted_vcpu_text : List ℕ → Periodic → List ℕ
+wanted_vcpu_text name task = codes "tableau: wanted is vcpu "
     ++ (name ++ (codes " period " ++ (decimal task.period ++ (codes " cost "
     ++ (decimal task.cost ++ codes " home CORE\n")))))
 
 -- the lines of the tables
-abbrev pub table_text : List ℕ
-table_text =
+abbrev pub wanted_table_text : List ℕ
+wanted_table_text =
     codes "tableau: wanted is END NAME or END - of a segment, core C before the first of each core, or the last line end\n"
 
 -- what is wanted after a plan text's first line: the line of this admitted vCPU, or where none is left,
 -- of the tables
 abbrev pub behind_head : List (List ℕ) → Option (ℕ × Periodic) → List ℕ
-behind_head names (Some admitted) = vcpu_text (name_at names admitted.0) admitted.1
-behind_head names None = table_text
+behind_head names (Some admitted) = wanted_vcpu_text (name_at names admitted.0) admitted.1
+behind_head names None = wanted_table_text
 
 -- the line of this number: the first one, that of the admitted vCPU so far after it, or one of the tables
-abbrev pub wanted_text : ℕ → ℕ → List (List ℕ) → List (Option Periodic) → List ℕ
-wanted_text number cores names tasks = if nat_le number 1
-    then head_text cores (length (admitted_from 0 tasks))
+abbrev pub wanted_line_text : ℕ → ℕ → List (List ℕ) → List (Option Periodic) → List ℕ
+wanted_line_text number cores names tasks = if nat_le number 1
+    then wanted_head_text cores (length (admitted_from 0 tasks))
     else behind_head names (slice_get (admitted_from 0 tasks) (number - 2))
 
 -- the advice on a plan text whose line of this number, from 1, is wrong: that line, and what is wanted there
 abbrev pub plan_line_text : List ℕ → ℕ → ℕ → List (List ℕ) → List (Option Periodic) → List ℕ
-plan_line_text plan number cores names tasks = found_text plan number ++ wanted_text number cores names tasks
+plan_line_text plan number cores names tasks = found_line_text plan number ++ wanted_line_text number cores names tasks
 
 -- what is wanted on this line of an earlier plan's text, whichever host it was made for
 abbrev pub old_wanted_text : ℕ → List ℕ

@@ -3,7 +3,7 @@
 use Rattle.std.specs.Prelude.{ℕ, List, [], ◌++◌, codes, flat_map}
 use Rattle.tab_words.specs.declared.command.Command.{Command}
 use Rattle.tab_words.specs.declared.command.Command.TheVariants.{Plan, PlanStay, PlanWhole, Check, Replay, Run}
-use Rattle.advice.specs.Usage.{spaced}
+use Rattle.advice.specs.Usage.{after_space}
 
 -- the line that says which texts are read
 abbrev pub reading_text : List ℕ → List ℕ
@@ -11,7 +11,7 @@ reading_text input = codes "tableau: reading " ++ (input ++ codes " from the ter
 
 -- the line to type: the words of the command, and a file after them
 abbrev pub typed_text : List (List ℕ) → List ℕ
-typed_text words = flat_map spaced words ++ codes " < FILE\n"
+typed_text words = flat_map after_space words ++ codes " < FILE\n"
 
 -- what ends the input, and what to type to read a file
 abbrev pub ending_text : List (List ℕ) → List ℕ

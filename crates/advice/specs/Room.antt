@@ -10,8 +10,8 @@ due_of_task None = 0
 due_of_task (Some task) = demand task.cost task.period
 
 -- the ticks of a round that all budgets are due together
-abbrev pub due_of : List (Option Periodic) → ℕ
-due_of tasks = sum_by due_of_task tasks
+abbrev pub due_of_tasks : List (Option Periodic) → ℕ
+due_of_tasks tasks = sum_by due_of_task tasks
 
 -- the least count of cores that have so many ticks
 abbrev pub cores_for : ℕ → ℕ
@@ -23,8 +23,8 @@ ask_text due room = codes "tableau: the vCPUs ask "
     ++ (decimal due ++ (codes " ticks of a round, and all cores have " ++ (decimal room ++ codes "\n")))
 
 -- the remedy where the vCPUs need so many cores, and a host may have them
-abbrev pub more_text : ℕ → List ℕ
-more_text cores = codes "tableau: take fewer or smaller shares, or " ++ (decimal cores ++ codes " cores\n")
+abbrev pub more_cores_text : ℕ → List ℕ
+more_cores_text cores = codes "tableau: take fewer or smaller shares, or " ++ (decimal cores ++ codes " cores\n")
 
 -- the remedy where the vCPUs need so many cores, which are more than a host may have
 abbrev pub beyond_text : ℕ → List ℕ
@@ -33,7 +33,7 @@ beyond_text cores = codes "tableau: take fewer or smaller shares; these want "
 
 -- the remedy where the vCPUs ask for more ticks than all cores have, and need so many cores
 abbrev pub cores_text : ℕ → List ℕ
-cores_text cores = if nat_le cores MAX_CORES then more_text cores else beyond_text cores
+cores_text cores = if nat_le cores MAX_CORES then more_cores_text cores else beyond_text cores
 
 -- what to do for vCPUs without room: a whole-host plan where all of them fit together, else more cores
 abbrev pub remedy_text : ℕ → ℕ → List ℕ

@@ -16,8 +16,8 @@ abbrev pub here_words : ℕ → List ℕ
 here_words found = if found == 1 then codes "; here is " else codes "; here are "
 
 -- how many texts a command wants, which these are, and how many its input has
-abbrev pub count_text : ℕ → ℕ → List ℕ
-count_text found wanted = codes "tableau: "
+abbrev pub section_count_text : ℕ → ℕ → List ℕ
+section_count_text found wanted = codes "tableau: "
     ++ (decimal wanted ++ (wanted_texts wanted
     ++ (here_words found ++ (decimal found ++ codes "\n"))))
 
@@ -45,4 +45,4 @@ near_part (Some near) = near_text near.0 near.1
 -- how many texts there are and are wanted, and the first line of the input that may have been meant to
 -- part them
 abbrev pub sections_text : List ℕ → ℕ → ℕ → List ℕ
-sections_text input found wanted = count_text found wanted ++ near_part (near_from 1 (lines_of input))
+sections_text input found wanted = section_count_text found wanted ++ near_part (near_from 1 (lines_of input))

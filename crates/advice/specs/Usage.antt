@@ -30,39 +30,39 @@ wanted_behind (word ∷ second ∷ third ∷ []) = wanted_third word
 wanted_behind (word ∷ second ∷ third ∷ fourth ∷ more) = Nothing
 
 -- the name of what has to be there; where nothing has to, these other words
-abbrev pub name_text : Wanted → List ℕ → List ℕ
-name_text Command other = codes "a command"
-name_text Rounds other = codes "a count of rounds"
-name_text Seed other = codes "a seed"
-name_text Cores other = codes "a count of cores"
-name_text Vcpus other = codes "a count of vCPUs"
-name_text wanted other = other
+abbrev pub wanted_name : Wanted → List ℕ → List ℕ
+wanted_name Command other = codes "a command"
+wanted_name Rounds other = codes "a count of rounds"
+wanted_name Seed other = codes "a seed"
+wanted_name Cores other = codes "a count of cores"
+wanted_name Vcpus other = codes "a count of vCPUs"
+wanted_name wanted other = other
 
 -- what may be there, in words
-abbrev pub wanted_text : Wanted → List ℕ
-wanted_text Command =
+abbrev pub wanted_word_text : Wanted → List ℕ
+wanted_word_text Command =
     codes "the commands are plan, check, run, replay, gen and selftest; for help type: tableau --help"
-wanted_text Nothing = codes "the command takes no more words"
-wanted_text Whole = codes "plan takes no word but whole or stay"
-wanted_text Rounds = codes "type a number from 1 to 10000"
-wanted_text Mode = codes "run takes no more words but trace, burst or live"
-wanted_text Seed = codes "type a number from 0 to 18446744073709551615"
-wanted_text Cores = codes "type a number from 1 to 32"
-wanted_text Vcpus = codes "type a number, at most 256 and at most 99 for each core and one more"
+wanted_word_text Nothing = codes "the command takes no more words"
+wanted_word_text Whole = codes "plan takes no word but whole or stay"
+wanted_word_text Rounds = codes "type a number from 1 to 10000"
+wanted_word_text Mode = codes "run takes no more words but trace, burst or live"
+wanted_word_text Seed = codes "type a number from 0 to 18446744073709551615"
+wanted_word_text Cores = codes "type a number from 1 to 32"
+wanted_word_text Vcpus = codes "type a number, at most 256 and at most 99 for each core and one more"
 
 -- the word asks for help, or begins with a dash as nothing but `--help` and `--version` do
 abbrev pub asks_help : List ℕ → Bool
 asks_help word = (slice_index word 0 == 45) || bytes_eq word (codes "help")
 
 -- a command of this name reads its input
-abbrev pub reads : List ℕ → Bool
-reads word = bytes_eq word (codes "plan") || (bytes_eq word (codes "check")
+abbrev pub reads_by_name : List ℕ → Bool
+reads_by_name word = bytes_eq word (codes "plan") || (bytes_eq word (codes "check")
     || (bytes_eq word (codes "run") || bytes_eq word (codes "replay")))
 
 -- the words begin with the name of a command that reads its input
 abbrev pub read_behind : List (List ℕ) → Bool
 read_behind [] = false
-read_behind (word ∷ words) = reads word
+read_behind (word ∷ words) = reads_by_name word
 
 -- a letter, a digit or one of `-./_`
 abbrev pub is_plain_byte : ℕ → Bool
@@ -86,22 +86,22 @@ abbrev pub file_word : List ℕ → List ℕ
 file_word word = if is_file_word word then word else codes "FILE"
 
 -- a word after a space
-abbrev pub spaced : List ℕ → List ℕ
-spaced word = codes " " ++ word
+abbrev pub after_space : List ℕ → List ℕ
+after_space word = codes " " ++ word
 
 -- the place of the count of rounds, where that is missing
-abbrev pub rounds_text : Wanted → List ℕ
-rounds_text Rounds = codes " ROUNDS"
-rounds_text wanted = []
+abbrev pub wanted_rounds : Wanted → List ℕ
+wanted_rounds Rounds = codes " ROUNDS"
+wanted_rounds wanted = []
 
 -- the file after the words
 abbrev pub file_text : List (List ℕ) → List ℕ → List ℕ
-file_text front word = rounds_text (wanted_behind front) ++ (codes " < " ++ (file_word word ++ codes "\n"))
+file_text front word = wanted_rounds (wanted_behind front) ++ (codes " < " ++ (file_word word ++ codes "\n"))
 
 -- the line to type: the words that are right, and the file after them
 abbrev pub shell_text : List (List ℕ) → List ℕ → List ℕ
 shell_text front word = codes "tableau: a file goes to standard input: tableau"
-    ++ (flat_map spaced front ++ file_text front word)
+    ++ (flat_map after_space front ++ file_text front word)
 
 -- some word is right
 abbrev pub is_begun : List (List ℕ) → Bool
@@ -116,22 +116,22 @@ hint_text front word = if is_begun front
     else []
 
 -- the advice on a word at this place that is wrong after the words before it
-abbrev pub found_text : List (List ℕ) → List ℕ → ℕ → List ℕ
-found_text front word place = codes "tableau: word "
+abbrev pub found_word_text : List (List ℕ) → List ℕ → ℕ → List ℕ
+found_word_text front word place = codes "tableau: word "
     ++ (decimal place ++ (codes ", " ++ (quoted word
-    ++ (codes ", isn't " ++ (name_text (wanted_behind front) (codes "expected")
-    ++ (codes ": " ++ (wanted_text (wanted_behind front) ++ codes "\n")))))))
+    ++ (codes ", isn't " ++ (wanted_name (wanted_behind front) (codes "expected")
+    ++ (codes ": " ++ (wanted_word_text (wanted_behind front) ++ codes "\n")))))))
 
 -- the advice on words after which one is missing
 abbrev pub missing_text : List (List ℕ) → List ℕ
 missing_text front = codes "tableau: "
-    ++ (name_text (wanted_behind front) (codes "a word")
-    ++ (codes " is missing: " ++ (wanted_text (wanted_behind front) ++ codes "\n")))
+    ++ (wanted_name (wanted_behind front) (codes "a word")
+    ++ (codes " is missing: " ++ (wanted_word_text (wanted_behind front) ++ codes "\n")))
 
 -- the advice on what comes after words that are right: the word at this place is wrong, or none is there
 abbrev pub behind_text : List (List ℕ) → ℕ → Option (List ℕ) → List ℕ
 behind_text front place None = missing_text front
-behind_text front place (Some word) = found_text front word place ++ hint_text front word
+behind_text front place (Some word) = found_word_text front word place ++ hint_text front word
 
 -- the advice on a fault at this place
 abbrev pub usage_text : List (List ℕ) → ℕ → List ℕ

@@ -3,7 +3,7 @@ ghost use Rattle.std.specs.Prelude.{◌≡◌, ◌↔◌, IfErr, IfOk, IsTrue, M
 ghost use Rattle.toml.specs.View.{table_view};
 ghost use Rattle.host_doc.specs.Document.{IsDocument, IsHostText};
 ghost use Rattle.period_choice.specs.Tasks.{AreTasksOf};
-ghost use Rattle.advice.specs.Advice.{HasPlan};
+ghost use Rattle.advice.specs.Advice.{HostHasPlan};
 ghost use Rattle.advice.specs.Inside.Again.{IsNoDocument, IsNoHost, LacksTasks};
 
 use crate::fault::AdviceFault;
@@ -65,7 +65,7 @@ pub(crate) fn has_plan<R: Threads + Sync>(
     tasks: Tasks,
 ) -> Result<bool, AdviceFault>
     requires { AreTasksOf host.now tasks }
-    ensures found { IfOk result (λ found. IsTrue found ↔ HasPlan host.now) }
+    ensures found { IfOk result (λ found. IsTrue found ↔ HostHasPlan host.now) }
     ensures cause { IfErr result (λ fault. fault ≡ AdviceFault.NoMemory) }
 {
     match plan_with(rt, alloc, host, tasks) {

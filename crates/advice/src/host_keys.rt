@@ -4,7 +4,7 @@ ghost use Rattle.toml.specs.Data.{get_item, get_member};
 ghost use Rattle.toml.specs.View.{items_view, table_view, view};
 ghost use Rattle.host_doc.specs.OtherKeys.{is_among};
 ghost use Rattle.advice.specs.Parts.{part_text, quote_of};
-ghost use Rattle.advice.specs.Keys.{first_other, host_keys, host_rule, is_second, is_two, member_at, name_at, other_in_vcpu, other_text, rule_text, same_text, space_of, vcpu_key_text, vcpu_rule};
+ghost use Rattle.advice.specs.Keys.{first_other, has_second_format, host_keys, host_rule, is_two, member_at, member_name, other_in_vcpu, other_text, rule_text, same_text, space_of, vcpu_key_text, vcpu_rule};
 
 use crate::part::{Part, put_parts};
 use host_doc::Key;
@@ -117,7 +117,7 @@ pub(crate) fn put_same_name<K: Sink>(
 
 // The space before the name of a vCPU, or nothing where it has none.
 fn space_of(table: &Table, number: u32) -> Part<'static>
-    ensures { part_text result ≡ space_of (name_at number (table_view table.now)) }
+    ensures { part_text result ≡ space_of (member_name number (table_view table.now)) }
 {
     match name_at(table, number) {
         Some(_) => Part::Text(b" "),
@@ -127,13 +127,13 @@ fn space_of(table: &Table, number: u32) -> Part<'static>
 
 // The name of a vCPU as the document has it, or nothing where it has none.
 fn label_of(table: &Table, number: u32) -> Part<'_>
-    ensures { part_text result ≡ quote_of (name_at number (table_view table.now)) }
+    ensures { part_text result ≡ quote_of (member_name number (table_view table.now)) }
 {
     part_of(name_at(table, number))
 }
 
 fn name_at(table: &Table, number: u32) -> Option<&str>
-    ensures { option_map (λ name. name.now) result ≡ name_at number (table_view table.now) }
+    ensures { option_map (λ name. name.now) result ≡ member_name number (table_view table.now) }
 {
     let Some(member) = member_at(table, number) else {
         return None;
@@ -188,7 +188,7 @@ fn other_in_host(table: &Table) -> Part<'_>
 
 // Whether the format has a key for the tick.
 fn is_second(table: &Table) -> bool
-    ensures { result ≡ is_second (table_view table.now) }
+    ensures { result ≡ has_second_format (table_view table.now) }
 {
     let Some(value) = value_at(table, "format") else {
         return false;

@@ -1,6 +1,6 @@
 ghost use Rattle.std.specs.Prelude.{◌≡◌, ◌+◌, ◌<◌, ◌≤◌, ◌^◌, length, take};
 ghost use Rattle.tab_io.specs.Sinks.{Writes};
-ghost use Rattle.advice.specs.Places.{place_after, place_behind};
+ghost use Rattle.advice.specs.Places.{place_after, place_after_all};
 ghost use Rattle.advice.specs.Hosts.{many_text, toml_text, toml_text_at};
 
 use crate::line::line_at;
@@ -58,7 +58,7 @@ fn put_toml_at<'a, K: Sink>(
 fn place_at(text: &[u8], at: usize) -> Place
     requires within { at ≤ length text.now }
     requires short { length text.now < 2 ^ 31 }
-    ensures { result ≡ place_behind (take at text.now) }
+    ensures { result ≡ place_after_all (take at text.now) }
 {
     let (front, _) = text.split_at(at);
     place_behind(front)
@@ -67,7 +67,7 @@ fn place_at(text: &[u8], at: usize) -> Place
 // The place after these bytes of a text.
 fn place_behind(front: &[u8]) -> Place
     requires { length front.now < 2 ^ 31 }
-    ensures { result ≡ place_behind front.now }
+    ensures { result ≡ place_after_all front.now }
 {
     let mut place = Place { line: 1, column: 1 };
     for byte in front {

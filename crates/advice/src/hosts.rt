@@ -2,9 +2,9 @@ ghost use Rattle.std.specs.Prelude.{◌*◌, ◌≤◌};
 ghost use Rattle.tab_core.specs.declared.TheConstants.{MAX_TICK_NS, MIN_TICK_NS, ROUND};
 ghost use Rattle.tab_io.specs.Sinks.{Writes};
 ghost use Rattle.period_choice.specs.Tasks.{AreTasksOf};
-ghost use Rattle.advice.specs.Advice.{IsHostAdvice, IsHostKeyAdvice, IsOtherText, IsPathAdvice, IsPeriodText, IsPlanText, IsRoomText, IsSameText, IsStayText, IsTomlText, IsVcpuKeyText, IsVcpuText, TellsOfPlan, WhereThereIs, WritesSome};
+ghost use Rattle.advice.specs.Advice.{IsHostAdvice, IsHostKeyAdvice, IsOtherText, IsPathAdvice, IsPeriodText, IsPlanLineAdvice, IsRoomText, IsSameText, IsStayText, IsTomlText, IsVcpuKeyText, IsVcpuText, TellsOfPlan, WhereThereIs, WritesSome};
 ghost use Rattle.advice.specs.Periods.{period_text};
-ghost use Rattle.advice.specs.Room.{due_of, room_text};
+ghost use Rattle.advice.specs.Room.{due_of_tasks, room_text};
 
 use crate::again::{has_plan, host_again, table_again, tasks_again};
 use crate::fault::{AdviceFault, of_sink};
@@ -218,7 +218,7 @@ pub(crate) fn put_no_room<K: Sink>(
 
 fn put_room_of<K: Sink>(sink: &mut K, host: &Host, tasks: &Tasks) -> Result<(), WriteFault>
     ensures { Writes (K.state sink.old) (K.state sink.new)
-        (room_text (due_of tasks.now) (host.now.cores * ROUND)) result }
+        (room_text (due_of_tasks tasks.now) (host.now.cores * ROUND)) result }
 {
     put_room(
         sink,
@@ -273,7 +273,7 @@ pub(crate) fn put_plan<K: Sink>(
     plan: &[u8],
     line: u32,
 ) -> Result<(), AdviceFault>
-    ensures { WritesSome (WhereThereIs (IsPlanText section.now plan.now line)) (K.state sink.old) (K.state sink.new) result }
+    ensures { WritesSome (WhereThereIs (IsPlanLineAdvice section.now plan.now line)) (K.state sink.old) (K.state sink.new) result }
 {
     let Some(host) = host_again(alloc, section)? else {
         return Ok(());

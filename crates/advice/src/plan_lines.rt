@@ -2,7 +2,7 @@ ghost use Rattle.std.specs.Prelude.{◌≡◌, ◌≤◌, length, slice_get};
 ghost use Rattle.tab_core.specs.declared.TheConstants.{MAX_VCPUS};
 ghost use Rattle.tab_io.specs.Sinks.{Writes};
 ghost use Rattle.vcpu_names.specs.Names.{names_of};
-ghost use Rattle.advice.specs.PlanLines.{admitted_from, behind_head, found_text, head_text, old_line_text, old_wanted_text, plan_line_text, shape_text, short_text, table_text, twice_text, vcpu_text, wanted_text};
+ghost use Rattle.advice.specs.PlanLines.{admitted_from, behind_head, found_line_text, old_line_text, old_wanted_text, plan_line_text, shape_text, short_text, twice_text, wanted_head_text, wanted_line_text, wanted_table_text, wanted_vcpu_text};
 
 use crate::line::line_at;
 use crate::part::{Part, put_parts};
@@ -28,7 +28,7 @@ pub(crate) fn put_plan_line<K: Sink>(
 }
 
 fn put_found<K: Sink>(sink: &mut K, plan: &[u8], number: u32) -> Result<(), WriteFault>
-    ensures { Writes (K.state sink.old) (K.state sink.new) (found_text plan.now number) result }
+    ensures { Writes (K.state sink.old) (K.state sink.new) (found_line_text plan.now number) result }
 {
     put_parts(
         sink,
@@ -50,7 +50,7 @@ fn put_wanted<K: Sink>(
     tasks: &Tasks,
 ) -> Result<(), WriteFault>
     ensures { Writes (K.state sink.old) (K.state sink.new)
-        (wanted_text number host.now.cores (names_of host.now.vcpus) tasks.now) result }
+        (wanted_line_text number host.now.cores (names_of host.now.vcpus) tasks.now) result }
 {
     if number <= 1 {
         return put_head(sink, host.cores, count_admitted(tasks.items()));
@@ -75,7 +75,7 @@ fn put_behind_head<K: Sink>(
 }
 
 fn put_table_line<K: Sink>(sink: &mut K) -> Result<(), WriteFault>
-    ensures { Writes (K.state sink.old) (K.state sink.new) table_text result }
+    ensures { Writes (K.state sink.old) (K.state sink.new) wanted_table_text result }
 {
     write_all(
         sink,
@@ -84,7 +84,7 @@ fn put_table_line<K: Sink>(sink: &mut K) -> Result<(), WriteFault>
 }
 
 fn put_head<K: Sink>(sink: &mut K, cores: u32, admitted: u32) -> Result<(), WriteFault>
-    ensures { Writes (K.state sink.old) (K.state sink.new) (head_text cores admitted) result }
+    ensures { Writes (K.state sink.old) (K.state sink.new) (wanted_head_text cores admitted) result }
 {
     put_parts(
         sink,
@@ -99,7 +99,7 @@ fn put_head<K: Sink>(sink: &mut K, cores: u32, admitted: u32) -> Result<(), Writ
 }
 
 fn put_vcpu<K: Sink>(sink: &mut K, name: &[u8], task: &Periodic) -> Result<(), WriteFault>
-    ensures { Writes (K.state sink.old) (K.state sink.new) (vcpu_text name.now task.now) result }
+    ensures { Writes (K.state sink.old) (K.state sink.new) (wanted_vcpu_text name.now task.now) result }
 {
     put_parts(
         sink,

@@ -1,7 +1,7 @@
 ghost use Rattle.std.specs.Prelude.{◌≡◌, ◌<◌, ◌≤◌};
 ghost use Rattle.tab_core.specs.declared.TheConstants.{ROUND};
 ghost use Rattle.tab_io.specs.Sinks.{Writes};
-ghost use Rattle.advice.specs.Room.{ask_text, beyond_text, cores_text, due_of, due_of_task, more_text, none_text, planned_text, remedy_text, room_text, unplanned_text};
+ghost use Rattle.advice.specs.Room.{ask_text, beyond_text, cores_text, due_of_task, due_of_tasks, more_cores_text, none_text, planned_text, remedy_text, room_text, unplanned_text};
 
 use crate::part::{Part, put_parts};
 use reservation::demand_of;
@@ -57,7 +57,7 @@ fn put_cores<K: Sink>(sink: &mut K, cores: u64) -> Result<(), WriteFault>
 
 // Writes the advice to take so many cores.
 fn put_more<K: Sink>(sink: &mut K, cores: u64) -> Result<(), WriteFault>
-    ensures { Writes (K.state sink.old) (K.state sink.new) (more_text cores) result }
+    ensures { Writes (K.state sink.old) (K.state sink.new) (more_cores_text cores) result }
 {
     put_parts(
         sink,
@@ -117,7 +117,7 @@ fn put_none_either<K: Sink>(sink: &mut K, demand: u64, room: u64) -> Result<(), 
 
 // The ticks of a round that these budgets are due together.
 pub(crate) fn due_of(tasks: &Tasks) -> u64
-    ensures { result ≡ due_of tasks.now }
+    ensures { result ≡ due_of_tasks tasks.now }
 {
     let mut due = 0;
     for task in tasks.items() {

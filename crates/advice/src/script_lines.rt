@@ -1,5 +1,5 @@
 ghost use Rattle.tab_io.specs.Sinks.{Writes};
-ghost use Rattle.advice.specs.Scripts.{script_text, script_line_text};
+ghost use Rattle.advice.specs.Scripts.{script_fault_text, script_line_text};
 
 use crate::line::line_at;
 use crate::part::{Part, put_parts};
@@ -13,7 +13,7 @@ pub(crate) fn put_script<K: Sink>(
     script: &[u8],
     fault: &ScriptFault,
 ) -> Result<(), WriteFault>
-    ensures { Writes (K.state sink.old) (K.state sink.new) (script_text script.now fault.now) result }
+    ensures { Writes (K.state sink.old) (K.state sink.new) (script_fault_text script.now fault.now) result }
 {
     match fault {
         ScriptFault::BadLine { line } => put_script_line(

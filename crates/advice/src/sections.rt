@@ -1,7 +1,7 @@
 ghost use Rattle.std.specs.Prelude.{◌≡◌, ◌<◌, ◌^◌, length, option_map};
 ghost use Rattle.tab_io.specs.Sinks.{Writes};
 ghost use Rattle.tab_words.specs.Lines.{lines_of};
-ghost use Rattle.advice.specs.Sections.{count_text, here_words, is_near, near_from, near_part, near_text, sections_text, wanted_texts};
+ghost use Rattle.advice.specs.Sections.{here_words, is_near, near_from, near_part, near_text, section_count_text, sections_text, wanted_texts};
 
 use crate::part::{Part, put_parts};
 use tab_io::{Sink, WriteFault};
@@ -36,7 +36,7 @@ fn put_near_line<K: Sink>(sink: &mut K, input: &[u8]) -> Result<(), WriteFault>
 }
 
 fn put_counts<K: Sink>(sink: &mut K, found: u32, wanted: u32) -> Result<(), WriteFault>
-    ensures { Writes (K.state sink.old) (K.state sink.new) (count_text found wanted) result }
+    ensures { Writes (K.state sink.old) (K.state sink.new) (section_count_text found wanted) result }
 {
     put_parts(
         sink,

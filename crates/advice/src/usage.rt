@@ -1,7 +1,7 @@
 ghost use Rattle.std.specs.Prelude.{◌≡◌, ◌≤◌, ◌++◌, flat_map, length, option_map, slice_get, string_bytes, take};
 ghost use Rattle.tab_io.specs.Sinks.{Writes};
 ghost use Rattle.tab_words.specs.Commands.{texts};
-ghost use Rattle.advice.specs.Usage.{are_plain, asks_help, behind_text, file_text, file_word, found_text, has_dot, hint_text, is_begun, is_file_word, is_plain_byte, missing_text, name_text, read_behind, reads, rounds_text, shell_text, spaced, usage_text, wanted_behind, wanted_first, wanted_second, wanted_text, wanted_third};
+ghost use Rattle.advice.specs.Usage.{after_space, are_plain, asks_help, behind_text, file_text, file_word, found_word_text, has_dot, hint_text, is_begun, is_file_word, is_plain_byte, missing_text, read_behind, reads_by_name, shell_text, usage_text, wanted_behind, wanted_first, wanted_name, wanted_rounds, wanted_second, wanted_third, wanted_word_text};
 
 use crate::part::{Part, put_parts};
 use tab_io::{Sink, WriteFault, write_all};
@@ -104,7 +104,7 @@ fn put_found<K: Sink>(
     place: u32,
 ) -> Result<(), WriteFault>
     ensures { Writes (K.state sink.old) (K.state sink.new)
-        (found_text (texts front.now) word.now place ++ hint_text (texts front.now) word.now) result }
+        (found_word_text (texts front.now) word.now place ++ hint_text (texts front.now) word.now) result }
 {
     if let Err(fault) = put_word(sink, front, word, place) {
         return Err(fault);
@@ -118,7 +118,7 @@ fn put_word<K: Sink>(
     word: &[u8],
     place: u32,
 ) -> Result<(), WriteFault>
-    ensures { Writes (K.state sink.old) (K.state sink.new) (found_text (texts front.now) word.now place) result }
+    ensures { Writes (K.state sink.old) (K.state sink.new) (found_word_text (texts front.now) word.now place) result }
 {
     put_parts(
         sink,
@@ -164,7 +164,7 @@ fn put_shell<K: Sink>(sink: &mut K, front: &[String], word: &[u8]) -> Result<(),
 // Writes the line's words, and the file after them.
 fn put_shell_end<K: Sink>(sink: &mut K, front: &[String], word: &[u8]) -> Result<(), WriteFault>
     ensures { Writes (K.state sink.old) (K.state sink.new)
-        (flat_map spaced (texts front.now) ++ file_text (texts front.now) word.now) result }
+        (flat_map after_space (texts front.now) ++ file_text (texts front.now) word.now) result }
 {
     if let Err(fault) = put_spaced(sink, front) {
         return Err(fault);
@@ -188,7 +188,7 @@ fn put_file<K: Sink>(sink: &mut K, front: &[String], word: &[u8]) -> Result<(), 
 
 // Writes the words, each after a space.
 pub(crate) fn put_spaced<K: Sink>(sink: &mut K, words: &[String]) -> Result<(), WriteFault>
-    ensures { Writes (K.state sink.old) (K.state sink.new) (flat_map spaced (texts words.now)) result }
+    ensures { Writes (K.state sink.old) (K.state sink.new) (flat_map after_space (texts words.now)) result }
 {
     for word in words {
         put_spaced_word(sink, word)?;
@@ -197,27 +197,27 @@ pub(crate) fn put_spaced<K: Sink>(sink: &mut K, words: &[String]) -> Result<(), 
 }
 
 fn put_spaced_word<K: Sink>(sink: &mut K, word: &String) -> Result<(), WriteFault>
-    ensures { Writes (K.state sink.old) (K.state sink.new) (spaced (string_bytes word.now)) result }
+    ensures { Writes (K.state sink.old) (K.state sink.new) (after_space (string_bytes word.now)) result }
 {
     put_parts(sink, &[Part::Text(b" "), Part::Text(word.as_bytes())])
 }
 
 // The name of what has to be after these words; where nothing has to, these other words.
 fn name_words<'a>(front: &[String], other: &'a [u8]) -> &'a [u8]
-    ensures { result.now ≡ name_text (wanted_behind (texts front.now)) other.now }
+    ensures { result.now ≡ wanted_name (wanted_behind (texts front.now)) other.now }
 {
     name_text(wanted_behind(front), other)
 }
 
 // What may be after these words, in words.
 fn wanted_words(front: &[String]) -> &'static [u8]
-    ensures { result.now ≡ wanted_text (wanted_behind (texts front.now)) }
+    ensures { result.now ≡ wanted_word_text (wanted_behind (texts front.now)) }
 {
     wanted_text(wanted_behind(front))
 }
 
 fn rounds_words(front: &[String]) -> &'static [u8]
-    ensures { result.now ≡ rounds_text (wanted_behind (texts front.now)) }
+    ensures { result.now ≡ wanted_rounds (wanted_behind (texts front.now)) }
 {
     rounds_text(wanted_behind(front))
 }
@@ -272,7 +272,7 @@ fn wanted_third(word: &[u8]) -> Wanted
 }
 
 fn name_text(wanted: Wanted, other: &[u8]) -> &[u8]
-    ensures { result.now ≡ name_text wanted other.now }
+    ensures { result.now ≡ wanted_name wanted other.now }
 {
     match wanted {
         Wanted::Command => b"a command",
@@ -285,7 +285,7 @@ fn name_text(wanted: Wanted, other: &[u8]) -> &[u8]
 }
 
 fn wanted_text(wanted: Wanted) -> &'static [u8]
-    ensures { result.now ≡ wanted_text wanted }
+    ensures { result.now ≡ wanted_word_text wanted }
 {
     match wanted {
         Wanted::Command => {
@@ -303,7 +303,7 @@ fn wanted_text(wanted: Wanted) -> &'static [u8]
 
 // What the line to type has for a count of rounds that is missing.
 fn rounds_text(wanted: Wanted) -> &'static [u8]
-    ensures { result.now ≡ rounds_text wanted }
+    ensures { result.now ≡ wanted_rounds wanted }
 {
     match wanted {
         Wanted::Rounds => b" ROUNDS",
@@ -338,7 +338,7 @@ fn read_behind(front: &[String]) -> bool
 }
 
 fn reads(word: &[u8]) -> bool
-    ensures { result ≡ reads word.now }
+    ensures { result ≡ reads_by_name word.now }
 {
     word == b"plan".as_slice()
         || word == b"check".as_slice()

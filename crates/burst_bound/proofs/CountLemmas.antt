@@ -18,7 +18,7 @@ use Rattle.table_form.specs.Running.Invariant.{StateInvariant}
 use Rattle.table_form.specs.Running.State.{State, CoreState, IsCore}
 use Rattle.table_form.specs.Tables.Serves.{is_cell_of}
 use Rattle.run_promises.proofs.TogetherLemmas.{one_core}
-use Rattle.burst_bound.specs.Inside.Counting.{run_by, run_in, run_on}
+use Rattle.burst_bound.specs.Inside.Counting.{ran_ticks_in, run_by, run_on}
 
 -- ---- lists
 
@@ -145,7 +145,7 @@ runs_once course rounds s v x ok kept =
 
 -- one tick more of one stint
 run_in_more : (v from x : ℕ) (st : Stint) → from ≤ x
-    → run_in v from (x + 1) st ≡ run_in v from x st + one (runs_in v x st)
+    → ran_ticks_in v from (x + 1) st ≡ ran_ticks_in v from x st + one (runs_in v x st)
 run_in_more v from x st low = by_cell (is_cell_of v st.ran) refl where
   by_cell : (b : Bool) → is_cell_of v st.ran ≡ b
       → cond (is_cell_of v st.ran) (min st.end (x + 1) - max st.from from) 0
@@ -163,7 +163,7 @@ run_in_more v from x st low = by_cell (is_cell_of v st.ran) refl where
       no_cell false b = refl
 
 -- none
-run_in_none : (v from : ℕ) (st : Stint) → run_in v from from st ≡ 0
+run_in_none : (v from : ℕ) (st : Stint) → ran_ticks_in v from from st ≡ 0
 run_in_none v from st = by_cell (is_cell_of v st.ran) refl where
   by_cell : (b : Bool) → is_cell_of v st.ran ≡ b → cond (is_cell_of v st.ran) (min st.end from - max st.from from) 0 ≡ 0
   by_cell true is = rw is (omega arith)
@@ -175,15 +175,15 @@ pub ticks_by_stints : (course : CourseView) (rounds : ℕ) (s : State) (v from n
 unfolding ticks_run run_on run_by
 ticks_by_stints course rounds s v from zero ok kept =
     let e : from + 0 ≡ from = omega arith in
-    rw e (sym (sum_none (λ (core : CoreState). sum_by (run_in v from from) core.stints) s.cores
-    (λ core. sum_none (run_in v from from) core.stints (run_in_none v from))))
+    rw e (sym (sum_none (λ (core : CoreState). sum_by (ran_ticks_in v from from) core.stints) s.cores
+    (λ core. sum_none (ran_ticks_in v from from) core.stints (run_in_none v from))))
 ticks_by_stints course rounds s v from (suc n) ok kept =
     let x : ℕ = from + n in
     let e : from + suc n ≡ x + 1 = omega arith in
-    let more = sum_both (λ (core : CoreState). sum_by (run_in v from x) core.stints)
+    let more = sum_both (λ (core : CoreState). sum_by (ran_ticks_in v from x) core.stints)
     (λ (core : CoreState). count_by (runs_in v x) core.stints)
-    (λ (core : CoreState). sum_by (run_in v from (x + 1)) core.stints) s.cores
-    (λ core. sum_both (run_in v from x) (λ st. one (runs_in v x st)) (run_in v from (x + 1)) core.stints
+    (λ (core : CoreState). sum_by (ran_ticks_in v from (x + 1)) core.stints) s.cores
+    (λ core. sum_both (ran_ticks_in v from x) (λ st. one (runs_in v x st)) (ran_ticks_in v from (x + 1)) core.stints
     (λ st. run_in_more v from x st (omega arith))) in
     let once = runs_once course rounds s v x ok kept in
     let before = ticks_by_stints course rounds s v from n ok kept in

@@ -10,7 +10,7 @@ use Rattle.std.proofs.lemmas.List.Concat.{length-flat_map}
 use Rattle.std.proofs.lemmas.List.Sorted.{All-permutation, sum_by-IsPermutation}
 use Rattle.std.proofs.lemmas.List.Sums.{sum_by-append, sum_by-cons, sum_by-le-sum_by, sum_by_more_le_part}
 use Rattle.std.proofs.lemmas.Option.{get_or_from_slice_get, slice_get-get_or, slice_get_within}
-use Rattle.stint_limit.specs.StintBounds.{stints_in}
+use Rattle.run_limit.specs.StintBounds.{stints_in}
 use Rattle.tab_core.specs.Timelines.{AreContiguous}
 use Rattle.tab_core.specs.declared.TheConstants.{MAX_ROUNDS, ROUND}
 use Rattle.tab_core.specs.declared.stint.Stint.{Stint}
@@ -20,7 +20,7 @@ use Rattle.table_form.specs.Running.Complete.{IsComplete}
 use Rattle.table_form.specs.Running.Invariant.{StateInvariant}
 use Rattle.table_form.specs.Running.State.{State, CoreState, IsCore}
 use Rattle.table_form.specs.Tables.Serves.{is_cell_of}
-use Rattle.burst_bound.specs.Inside.Runs.{AreInPlace, AreRanBefore, IsBegun, TellRuns, covers_for, piece_of, piece_with, pieces_of, pieces_on}
+use Rattle.burst_bound.specs.Inside.Runs.{AreInPlace, AreRanBefore, CountsBegunPieces, TellRuns, covers_for, piece_of, piece_with, pieces_of, ran_pieces}
 use Rattle.burst_bound.specs.declared.ran.RanPiece.{RanPiece}
 use Rattle.burst_bound.proofs.CountLemmas.{runs_once, stints_running, ticks_few}
 use Rattle.burst_bound.proofs.RanLemmas.{begun_here, ends_before, ran_by_end, ran_last, ran_none, ran_other}
@@ -43,14 +43,14 @@ pieces_few (st ∷ stints) =
 
 -- the pieces of one core more
 pub pieces_on_more : (s : State) (c : ℕ) (core : CoreState) → IsCore s c core
-    → pieces_on (take (c + 1) s.cores) ≡ pieces_on (take c s.cores) ++ pieces_of core.stints
+    → ran_pieces (take (c + 1) s.cores) ≡ ran_pieces (take c s.cores) ++ pieces_of core.stints
 pieces_on_more s c core at =
     let lt = slice_get_within s.cores c core at in
     let here = get_or_from_slice_get s.cores c core core at in
     let f : CoreState → List RanPiece = λ (k : CoreState). pieces_of k.stints in
-    ap pieces_on (take_more s.cores c core lt)
+    ap ran_pieces (take_more s.cores c core lt)
     ∙ sym (flat_map_more f [] (take c s.cores) (get_or s.cores c core))
-    ∙ ap (λ (k : CoreState). pieces_on (take c s.cores) ++ pieces_of k.stints) here
+    ∙ ap (λ (k : CoreState). ran_pieces (take c s.cores) ++ pieces_of k.stints) here
 
 -- the pieces of one stint more
 pub pieces_more : (old : List RanPiece) (stints : List Stint) (k : ℕ) (st : Stint) → k < length stints
@@ -62,7 +62,7 @@ pieces_more old stints k st lt is =
 
 -- the pieces so far and the stints of one core more are no more than all stints
 pub pieces_on_room : (s : State) (c : ℕ) (core : CoreState) → IsCore s c core
-    → length (pieces_on (take c s.cores)) + length core.stints ≤ stints_in s
+    → length (ran_pieces (take c s.cores)) + length core.stints ≤ stints_in s
 pieces_on_room s c core at =
     let f : CoreState → ℕ = λ (k : CoreState). length (pieces_of k.stints) in
     let g : CoreState → ℕ = λ (k : CoreState). length k.stints in
@@ -73,7 +73,7 @@ pieces_on_room s c core at =
     omega arith
 
 -- all pieces are no more than all stints
-pub pieces_on_few : (s : State) → length (pieces_on s.cores) ≤ stints_in s
+pub pieces_on_few : (s : State) → length (ran_pieces s.cores) ≤ stints_in s
 pieces_on_few s =
     let f : CoreState → ℕ = λ (k : CoreState). length (pieces_of k.stints) in
     let g : CoreState → ℕ = λ (k : CoreState). length k.stints in
@@ -109,12 +109,12 @@ count_of v x (st ∷ stints) =
     )
 
 -- the pieces of cores cover what their stints run
-count_on : (v x : ℕ) (cores : List CoreState) → count_by (covers_for v x) (pieces_on cores) ≡ stints_running v x cores
+count_on : (v x : ℕ) (cores : List CoreState) → count_by (covers_for v x) (ran_pieces cores) ≡ stints_running v x cores
 count_on v x [] = refl
 count_on v x (core ∷ cores) =
     omega (
       arith,
-      sum_by-append (λ (p : RanPiece). one (covers_for v x p)) (pieces_of core.stints) (pieces_on cores),
+      sum_by-append (λ (p : RanPiece). one (covers_for v x p)) (pieces_of core.stints) (ran_pieces cores),
       sum_by-cons (λ (k : CoreState). count_by (runs_in v x) k.stints) core cores,
       count_of v x core.stints,
       count_on v x cores,
@@ -171,7 +171,7 @@ abbrev IsSome : ℕ → ℕ → ℕ → Type 0
 IsSome rounds from end = (from < end) × (end ≤ rounds * ROUND)
 
 each_on : (course : CourseView) (rounds : ℕ) (s : State) → StateInvariant course rounds s → IsComplete course rounds s
-    → (k : ℕ) (p : RanPiece) → slice_get (pieces_on s.cores) k ≡ Some p → IsSome rounds p.from p.end
+    → (k : ℕ) (p : RanPiece) → slice_get (ran_pieces s.cores) k ≡ Some p → IsSome rounds p.from p.end
 each_on course rounds s kept whole =
     each_flat (λ p. IsSome rounds p.from p.end) (λ (core : CoreState). pieces_of core.stints) s.cores (λ c core at.
     each_flat (λ p. IsSome rounds p.from p.end) piece_of core.stints (λ j st there.
@@ -183,7 +183,7 @@ each_on course rounds s kept whole =
 
 -- the pieces of all cores tell of the run
 pub pieces_tell : (course : CourseView) (rounds : ℕ) (s : State) → IsCourse course
-    → StateInvariant course rounds s → IsComplete course rounds s → TellRuns rounds s (pieces_on s.cores)
+    → StateInvariant course rounds s → IsComplete course rounds s → TellRuns rounds s (ran_pieces s.cores)
 pieces_tell course rounds s ok kept whole = record {
   some = λ k p here. (each_on course rounds s kept whole k p here).0;
   in_run = λ k p here. (each_on course rounds s kept whole k p here).1;
@@ -218,7 +218,7 @@ pub sum_none : (rounds : ℕ) (s : State) (pieces : List RanPiece) (k : ℕ) (p 
     → ticks_run s p.vcpu 0 p.from ≡ 0
 sum_none rounds s pieces k p few tell order at first =
     ran_none rounds s pieces few tell order p.vcpu p.from
-    (subst (IsBegun pieces p.vcpu p.from) first (begun_here rounds s pieces few tell order k p at))
+    (subst (CountsBegunPieces pieces p.vcpu p.from) first (begun_here rounds s pieces few tell order k p at))
 
 -- before a piece of another vCPU than the last nothing more ran
 pub sum_other : (rounds : ℕ) (s : State) (pieces : List RanPiece) (k : ℕ) (p last : RanPiece) → rounds ≤ MAX_ROUNDS
@@ -229,7 +229,7 @@ sum_other rounds s pieces k p last few tell order at some before other =
     let in_run = tell.in_run k p at in
     let ticks = tell.some k p at in
     ran_other rounds s pieces few tell order p.vcpu p.from (k - 1) last (omega arith)
-    (subst (IsBegun pieces p.vcpu p.from) next (begun_here rounds s pieces few tell order k p at)) before other
+    (subst (CountsBegunPieces pieces p.vcpu p.from) next (begun_here rounds s pieces few tell order k p at)) before other
 
 -- before a piece of the last one's vCPU as much ran as by the end of the last
 pub sum_same : (rounds : ℕ) (s : State) (pieces : List RanPiece) (k : ℕ) (p last : RanPiece) → rounds ≤ MAX_ROUNDS
@@ -242,7 +242,7 @@ sum_same rounds s pieces k p last few tell order at some before same =
     let ticks = tell.some k p at in
     let ends = ends_before rounds s pieces few tell order (k - 1) k last p (omega arith) before at same in
     let ran = ran_last rounds s pieces few tell order p.vcpu p.from (k - 1) last (omega arith)
-    (subst (IsBegun pieces p.vcpu p.from) next (begun_here rounds s pieces few tell order k p at)) before same in
+    (subst (CountsBegunPieces pieces p.vcpu p.from) next (begun_here rounds s pieces few tell order k p at)) before same in
     let moved = ap (λ (v : ℕ). ticks_run s v 0 last.from) same in
     omega arith
 

@@ -13,7 +13,7 @@ use Rattle.table_form.specs.Promises.Capped.{runs_at, ticks_run}
 use Rattle.table_form.specs.Running.State.{State}
 use Rattle.burst_bound.specs.Answers.{IsOneIfAny}
 use Rattle.burst_bound.specs.Bursts.{IsDoneAt}
-use Rattle.burst_bound.specs.Inside.Runs.{AreInPlace, AreRuns, IsBegun, IsFirstWith, IsReached, IsReachedAt, TellRuns, after_piece, covers_for, place_of}
+use Rattle.burst_bound.specs.Inside.Runs.{AreInPlace, AreRuns, CountsBegunPieces, IsFirstWith, IsReached, IsReachedAt, TellRuns, after_piece, covers_for, place_of}
 use Rattle.burst_bound.specs.declared.ran.RanPiece.{RanPiece}
 use Rattle.burst_bound.proofs.CountLemmas.{ticks_few}
 use Rattle.burst_bound.proofs.DoneLemmas.{ticks_rise}
@@ -180,7 +180,7 @@ module _ (rounds : ℕ) (s : State) (pieces : List RanPiece) (few : rounds ≤ M
       at_most false le is = omega arith
 
   -- a piece of the vCPU that begins before the tick is one of the first
-  begun_before : (v t n k : ℕ) (p : RanPiece) → IsBegun pieces v t n → slice_get pieces k ≡ Some p → p.vcpu ≡ v → p.from < t
+  begun_before : (v t n k : ℕ) (p : RanPiece) → CountsBegunPieces pieces v t n → slice_get pieces k ≡ Some p → p.vcpu ≡ v → p.from < t
       → k < n
   begun_before v t n k p begun at of low = elim (cases_lt k n) [
     | inl earlier ↦ earlier
@@ -188,7 +188,7 @@ module _ (rounds : ℕ) (s : State) (pieces : List RanPiece) (few : rounds ≤ M
   ]
 
   -- where none of the first is of the vCPU, it didn't run before the tick
-  ran_nothing : (v t n : ℕ) → IsBegun pieces v t n
+  ran_nothing : (v t n : ℕ) → CountsBegunPieces pieces v t n
       → ((k : ℕ) (p : RanPiece) → k < n → slice_get pieces k ≡ Some p → p.vcpu ≡ v → ⊥)
       → ticks_run s v 0 t ≡ 0
   ran_nothing v t n begun other = none_run s v 0 t (λ x low high is.
@@ -198,11 +198,11 @@ module _ (rounds : ℕ) (s : State) (pieces : List RanPiece) (few : rounds ≤ M
       (begun_before v t n has.place has.piece begun has.at has.of (omega arith)) has.at has.of))
 
   -- a vCPU without a first piece didn't run before the tick
-  pub ran_none : (v t : ℕ) → IsBegun pieces v t 0 → ticks_run s v 0 t ≡ 0
+  pub ran_none : (v t : ℕ) → CountsBegunPieces pieces v t 0 → ticks_run s v 0 t ≡ 0
   ran_none v t begun = ran_nothing v t 0 begun (λ k p lt at of. absurd (omega arith))
 
   -- or the last of them is another's
-  pub ran_other : (v t m : ℕ) (last : RanPiece) → t < 4294967296 → IsBegun pieces v t (m + 1)
+  pub ran_other : (v t m : ℕ) (last : RanPiece) → t < 4294967296 → CountsBegunPieces pieces v t (m + 1)
       → slice_get pieces m ≡ Some last → (last.vcpu ≡ v → ⊥) → ticks_run s v 0 t ≡ 0
   ran_other v t m last small begun there other = ran_nothing v t (m + 1) begun (λ k p lt at of.
       (let rises = places_rise k m p last (omega arith) at there in
@@ -214,7 +214,7 @@ module _ (rounds : ℕ) (s : State) (pieces : List RanPiece) (few : rounds ≤ M
       other (omega arith)))
 
   -- where the last of them is the vCPU's, it ran as much as before that, and in it up to the tick
-  pub ran_last : (v t m : ℕ) (last : RanPiece) → t < 4294967296 → IsBegun pieces v t (m + 1)
+  pub ran_last : (v t m : ℕ) (last : RanPiece) → t < 4294967296 → CountsBegunPieces pieces v t (m + 1)
       → slice_get pieces m ≡ Some last → last.vcpu ≡ v
       → ticks_run s v 0 t ≡ ticks_run s v 0 last.from + (min last.end t - last.from)
   ran_last v t m last small begun there of =
@@ -252,7 +252,7 @@ module _ (rounds : ℕ) (s : State) (pieces : List RanPiece) (few : rounds ≤ M
           omega arith
 
   -- each piece's begin is such a tick of its vCPU
-  pub begun_here : (k : ℕ) (p : RanPiece) → slice_get pieces k ≡ Some p → IsBegun pieces p.vcpu p.from k
+  pub begun_here : (k : ℕ) (p : RanPiece) → slice_get pieces k ≡ Some p → CountsBegunPieces pieces p.vcpu p.from k
   begun_here k p at = record {
     within = (let lt = slice_get_within pieces k p at in omega arith);
     before = λ j q lt there. (let rises = places_rise j k q p (omega arith) there at in
@@ -306,32 +306,32 @@ module _ (rounds : ℕ) (s : State) (pieces : List RanPiece) (before : List ℕ)
       omega (arith, after_is k p at, ticks_few s p.vcpu 0 p.end, are.tell.in_run k p at)
 
   -- what has run before a tick
-  pub ran_at_last : (v t n : ℕ) → t < 4294967296 → IsBegun pieces v t n → (last : RanPiece)
+  pub ran_at_last : (v t n : ℕ) → t < 4294967296 → CountsBegunPieces pieces v t n → (last : RanPiece)
       → 1 ≤ n → slice_get pieces (n - 1) ≡ Some last → last.vcpu ≡ v
       → ticks_run s v 0 t ≡ get_or before (n - 1) 0 + (min last.end t - last.from)
   ran_at_last v t n small begun last some at of =
       let next : n ≡ n - 1 + 1 = omega arith in
       let ran = ran_last rounds s pieces few are.tell are.order v t (n - 1) last small
-      (subst (IsBegun pieces v t) next begun) at of in
+      (subst (CountsBegunPieces pieces v t) next begun) at of in
       let here = before_is (n - 1) last at in
       let same = ap (λ (w : ℕ). ticks_run s w 0 last.from) of in
       omega arith
 
   -- nothing, where the last that began is another's
-  pub ran_at_other : (v t n : ℕ) → t < 4294967296 → IsBegun pieces v t n → (last : RanPiece)
+  pub ran_at_other : (v t n : ℕ) → t < 4294967296 → CountsBegunPieces pieces v t n → (last : RanPiece)
       → 1 ≤ n → slice_get pieces (n - 1) ≡ Some last → (last.vcpu ≡ v → ⊥) → ticks_run s v 0 t ≡ 0
   ran_at_other v t n small begun last some at other =
       let next : n ≡ n - 1 + 1 = omega arith in
       ran_other rounds s pieces few are.tell are.order v t (n - 1) last small
-      (subst (IsBegun pieces v t) next begun) at other
+      (subst (CountsBegunPieces pieces v t) next begun) at other
 
   -- nothing ran where no piece began
-  pub ran_at_none : (v t n : ℕ) → n ≡ 0 → IsBegun pieces v t n → ticks_run s v 0 t ≡ 0
+  pub ran_at_none : (v t n : ℕ) → n ≡ 0 → CountsBegunPieces pieces v t n → ticks_run s v 0 t ≡ 0
   ran_at_none v t n none begun =
-      ran_none rounds s pieces few are.tell are.order v t (subst (IsBegun pieces v t) none begun)
+      ran_none rounds s pieces few are.tell are.order v t (subst (CountsBegunPieces pieces v t) none begun)
 
   -- the last that began began before the tick
-  pub last_begun : (v t n : ℕ) → t < 4294967296 → IsBegun pieces v t n → (last : RanPiece)
+  pub last_begun : (v t n : ℕ) → t < 4294967296 → CountsBegunPieces pieces v t n → (last : RanPiece)
       → 1 ≤ n → slice_get pieces (n - 1) ≡ Some last → last.vcpu ≡ v → (last.from < t) × (last.from < last.end)
   last_begun v t n small begun last some at of =
       let low = begun.before (n - 1) last (omega arith) at in
@@ -491,7 +491,7 @@ module _ (rounds : ℕ) (s : State) (pieces : List RanPiece) (before : List ℕ)
 pub begun_at : (pieces : List RanPiece) (v t n : ℕ) → n ≤ length pieces
     → IsPartitionPoint (λ (p : RanPiece). ltb (place_of p.vcpu p.from) (place_of v t) ≡ true)
     (λ (p : RanPiece). ltb (place_of p.vcpu p.from) (place_of v t) ≡ false) pieces n
-    → IsBegun pieces v t n
+    → CountsBegunPieces pieces v t n
 begun_at pieces v t n le at = record {
   within = le;
   before = λ k p lt is. (let test = at.0 k p (omega arith) lt in

@@ -1,7 +1,7 @@
 -- What is reported of all bursts of a run.
 -- Source: the rules of this project.
 use Rattle.std.specs.Prelude.{◌≡◌, ℕ, ◌≤◌, List, Some, length, slice_get}
-use Rattle.stint_limit.specs.StintBounds.{stints_in}
+use Rattle.run_limit.specs.StintBounds.{stints_in}
 use Rattle.table_form.specs.Running.Courses.{CourseView}
 use Rattle.table_form.specs.Running.State.{State}
 use Rattle.script_doc.specs.declared.event.Event.{Event}

@@ -4,7 +4,7 @@ ghost use Rattle.table_form.specs.Promises.Capped.{ticks_run};
 ghost use Rattle.table_form.specs.Running.State.{State as StateValue};
 ghost use Rattle.burst_bound.specs.Answers.{IsOneIfAny};
 ghost use Rattle.burst_bound.specs.Bursts.{IsDoneAt};
-ghost use Rattle.burst_bound.specs.Inside.Counting.{run_by, run_in};
+ghost use Rattle.burst_bound.specs.Inside.Counting.{ran_ticks_in, run_by};
 ghost use Rattle.burst_bound.specs.KeptRuns.{IsKeptRun};
 
 use core_workers::Crew;
@@ -82,7 +82,7 @@ fn ticks_in(stints: &[Stint], vcpu: VcpuNo, from: u32, end: u32) -> u32
 
 // At how many of these ticks the stint ran the vCPU.
 fn run_in(stint: &Stint, vcpu: VcpuNo, from: u32, end: u32) -> u32
-    ensures { result ≡ run_in vcpu from end stint.now }
+    ensures { result ≡ ran_ticks_in vcpu from end stint.now }
 {
     match stint.ran {
         Some(ran) if ran == vcpu => stint.end.min(end).saturating_sub(stint.from.max(from)),

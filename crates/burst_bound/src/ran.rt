@@ -5,7 +5,7 @@ ghost use Rattle.table_form.specs.Running.State.{State as StateValue};
 ghost use Rattle.burst_bound.specs.Answers.{IsOneIfAny};
 ghost use Rattle.burst_bound.specs.Bursts.{IsDoneAt};
 ghost use Rattle.burst_bound.specs.declared.ran.RanPiece.{RanPiece as RanPieceValue};
-ghost use Rattle.burst_bound.specs.Inside.Runs.{AreInPlace, AreRuns, IsBegun, IsFirstWith, IsReached, after_piece, place_of};
+ghost use Rattle.burst_bound.specs.Inside.Runs.{AreInPlace, AreRuns, CountsBegunPieces, IsFirstWith, IsReached, after_piece, place_of};
 
 // Beyond each tick.
 const TICKS: u64 = 4_294_967_296;
@@ -60,7 +60,7 @@ fn ran_before(pieces: &[RanPiece], before: &[u32], vcpu: u32, tick: u32) -> u32
 // How many pieces begin before the vCPU's tick, in their order.
 fn begun_before(pieces: &[RanPiece], vcpu: u32, tick: u32) -> usize
     requires { AreInPlace pieces.now }
-    ensures { IsBegun pieces.now vcpu tick result }
+    ensures { CountsBegunPieces pieces.now vcpu tick result }
 {
     let place = place_of(vcpu, tick);
     pieces.partition_point(|piece| place_of(piece.vcpu, piece.from) < place)

@@ -1,5 +1,5 @@
 ghost use Rattle.std.specs.Prelude.{◌≡◌, ◌+◌, ◌<◌, ◌≤◌, ◌++◌, ℕ, IfOk, Some, length, slice_get, vec_capacity};
-ghost use Rattle.stint_limit.specs.StintBounds.{stints_in};
+ghost use Rattle.run_limit.specs.StintBounds.{stints_in};
 ghost use Rattle.table_form.specs.Running.State.{State as StateValue};
 ghost use Rattle.burst_bound.specs.Inside.Runs.{AreInPlace, AreRanBefore, AreRuns, TellRuns, pieces_of};
 ghost use Rattle.burst_bound.specs.declared.ran.RanPiece.{RanPiece as RanPieceValue};

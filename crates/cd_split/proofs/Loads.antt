@@ -8,7 +8,7 @@ use Rattle.tab_core.specs.Period.{IsPeriod}
 use Rattle.tab_core.proofs.Periods.{period_facts}
 use Rattle.table_form.specs.Planning.Jobs.{Subtask, job_of, subtask_of, first_jobs, jobs_of, jobs_of_subtask}
 use Rattle.table_form.specs.Planning.Demand.{demand_in, is_inside, Fits}
-use Rattle.edf_table.specs.Load.{load}
+use Rattle.edf_table.specs.Load.{load_of_pieces}
 use Rattle.edf_table.proofs.Pieces.{first_jobs-suc, first_jobs-zero, jobs_of-cons, jobs_of-nil}
 use Rattle.edf_table.proofs.LoadLemmas.{demand_in-append, demand_in-none, demand_in-one}
 use Rattle.cd_split.specs.Splitting.{FitsWith}
@@ -37,7 +37,7 @@ subtask_load s within is =
     round_demand s (ROUND / s.period) within (omega (arith, facts.whole))
 
 -- the load of pieces is their demand of the whole round
-pub load_demand : (ps : List Piece) → demand_in (jobs_of ps) 0 ROUND ≡ load ps
+pub load_demand : (ps : List Piece) → demand_in (jobs_of ps) 0 ROUND ≡ load_of_pieces ps
 load_demand [] = rw jobs_of-nil (demand_in-none 0 ROUND)
 load_demand (p ∷ ps) =
     let here : demand_in (jobs_of_subtask (subtask_of p)) 0 ROUND ≡ p.cost * (ROUND / p.period) =
@@ -51,12 +51,12 @@ round_positive : 0 < ROUND
 round_positive = lit< tt
 
 -- the criterion at the whole round: a core is not loaded beyond it, so its sum never overflows
-pub fits_load : (ps : List Piece) → Fits (jobs_of ps) → load ps ≤ ROUND
+pub fits_load : (ps : List Piece) → Fits (jobs_of ps) → load_of_pieces ps ≤ ROUND
 fits_load ps fits = let bound = fits 0 ROUND round_positive (omega arith) in omega (arith, load_demand ps)
 
 -- beside these pieces a subtask fits only within the load that they leave
 pub fits_with_load : (ps : List Piece) (s : Subtask) → s.to ≤ s.period → IsPeriod s.period
-    → FitsWith ps s → load ps + s.cost * (ROUND / s.period) ≤ ROUND
+    → FitsWith ps s → load_of_pieces ps + s.cost * (ROUND / s.period) ≤ ROUND
 fits_with_load ps s within is fits =
     let bound : demand_in (jobs_of ps ++ jobs_of_subtask s) 0 ROUND ≤ ROUND - 0 =
     fits 0 ROUND round_positive (omega arith) in
@@ -68,19 +68,19 @@ fits_with_load ps s within is fits =
     )
 
 -- loads add up
-pub load-append : (ps qs : List Piece) → load (ps ++ qs) ≡ load ps + load qs
+pub load-append : (ps qs : List Piece) → load_of_pieces (ps ++ qs) ≡ load_of_pieces ps + load_of_pieces qs
 load-append [] qs = omega arith
 load-append (p ∷ ps) qs = omega (arith, load-append ps qs)
 
 -- the load grows by a piece's at each step, up to that of all pieces
 pub load_more : (ps : List Piece) (i : ℕ) (p : Piece) → i < length ps → p ≡ get_or ps i p
-    → load (take (i + 1) ps) ≡ load (take i ps) + p.cost * (ROUND / p.period)
+    → load_of_pieces (take (i + 1) ps) ≡ load_of_pieces (take i ps) + p.cost * (ROUND / p.period)
 load_more ps i p lt is =
-    ap load (take_more ps i p lt) ∙ load-append (take i ps) (get_or ps i p ∷ [])
-    ∙ ap (λ q. load (take i ps) + load (q ∷ [])) (sym is) ∙ omega arith
+    ap load_of_pieces (take_more ps i p lt) ∙ load-append (take i ps) (get_or ps i p ∷ [])
+    ∙ ap (λ q. load_of_pieces (take i ps) + load_of_pieces (q ∷ [])) (sym is) ∙ omega arith
 
 -- the load of the first pieces is at most that of all, so no step overflows
-pub load_take : (ps : List Piece) (i : ℕ) → load (take i ps) ≤ load ps
+pub load_take : (ps : List Piece) (i : ℕ) → load_of_pieces (take i ps) ≤ load_of_pieces ps
 load_take [] zero = omega arith
 load_take [] (suc i) = omega arith
 load_take (p ∷ ps) zero = omega arith

@@ -4,7 +4,7 @@ use Rattle.std.specs.List.{AllZip}
 use Rattle.tab_core.specs.declared.over.Over.{Over}
 use Rattle.tab_core.specs.declared.piece.Piece.{Piece}
 use Rattle.cd_split.specs.Inside.Search.{IsCutPiece, IsHomePiece, IsHomeless, IsUncut}
-use Rattle.cd_split.specs.Splitting.{IsCut, IsOverloadWith, Left, Refuses, Splits, behind, rest_of, without}
+use Rattle.cd_split.specs.Splitting.{IsCut, IsOverloadWith, Left, Refuses, Splits, left_after_cut, rest_of, unused_without}
 use Rattle.cd_split.specs.Splitting.Splits.{AtHome, Cut}
 use Rattle.cd_split.specs.Splitting.Refuses.{NoRoom, AfterCut}
 
@@ -29,7 +29,7 @@ cut_is cores left unused piece homeless cut =
 -- what splits after a cut splits with it
 pub splits_after_cut : (cores : List (List Piece)) (left : Left) (unused : List ℕ) (piece : Piece)
     (pieces : List Piece) → IsHomeless cores left unused → IsCutPiece cores left unused piece →
-    Splits cores (behind left piece.cost) (without piece.core unused) pieces
+    Splits cores (left_after_cut left piece.cost) (unused_without piece.core unused) pieces
     → Splits cores left unused (piece ∷ pieces)
 splits_after_cut cores left unused piece pieces homeless cut next =
     Cut left unused piece.core piece.cost piece pieces (cut_is cores left unused piece homeless cut)
@@ -39,7 +39,7 @@ splits_after_cut cores left unused piece pieces homeless cut next =
 pub refuses_after_cut : (cores : List (List Piece)) (left : Left) (unused : List ℕ) (piece : Piece)
     (rest : ℕ) (over : List Over) → IsHomeless cores left unused
     → IsCutPiece cores left unused piece →
-    Refuses cores (behind left piece.cost) (without piece.core unused) rest over
+    Refuses cores (left_after_cut left piece.cost) (unused_without piece.core unused) rest over
     → Refuses cores left unused rest over
 refuses_after_cut cores left unused piece rest over homeless cut next =
     AfterCut left unused piece.core piece.cost rest over (cut_is cores left unused piece homeless cut) next

@@ -10,22 +10,22 @@ use Rattle.table_form.specs.Planning.Jobs.{Subtask}
 use Rattle.table_form.specs.Planning.Demand.{Fits}
 use Rattle.cd_split.specs.Cores.{pieces_on, HaveRoomFor}
 use Rattle.cd_split.specs.Shares.{AreOf, FitTheirCores, HaveAdjacentWindows, StandApart}
-use Rattle.cd_split.specs.Splitting.{FitsWith, IsPieceOf, Left, Splits, behind, cut_of, rest_of, without}
+use Rattle.cd_split.specs.Splitting.{FitsWith, IsPieceOf, Left, Splits, cut_of, left_after_cut, rest_of, unused_without}
 use Rattle.cd_split.specs.Splitting.Splits.{AtHome, Cut}
 use Rattle.cd_split.proofs.Trials.{jobs_of-push}
 
 -- the unused cores after a cut were unused before it
-pub still_unused : (core other : ℕ) (unused : List ℕ) → Contains (without core unused) other
+pub still_unused : (core other : ℕ) (unused : List ℕ) → Contains (unused_without core unused) other
     → Contains unused other
 still_unused core other unused there =
-    All-contains (Contains unused) (without core unused) other
+    All-contains (Contains unused) (unused_without core unused) other
     (All-filter (λ c. not (c == core)) (Contains unused) unused (All-contains_itself unused))
     there
 
 -- the core of a cut is none of the unused cores after it, so no core is used twice
-not_without : (core other : ℕ) (unused : List ℕ) → Contains (without core unused) other → other ≢ core
+not_without : (core other : ℕ) (unused : List ℕ) → Contains (unused_without core unused) other → other ≢ core
 not_without core other unused there e =
-    let passes = All-contains (λ c. not (c == core) ≡ true) (without core unused) other
+    let passes = All-contains (λ c. not (c == core) ≡ true) (unused_without core unused) other
     (filter_passes (λ c. not (c == core)) unused) there in
     grind (arith, nat_tests)
 
@@ -49,7 +49,7 @@ splits_of cores left unused pieces (AtHome l u core piece first is) =
 splits_of cores left unused pieces (Cut l u core cost piece ps cut is next) =
     All-cons (λ (p : Piece). (p.vcpu ≡ l.vcpu) × (p.period ≡ l.period)) piece ps
     (ap (λ (s : Subtask). s.vcpu) is.1, ap (λ (s : Subtask). s.period) is.1)
-    (splits_of cores (behind l cost) (without core u) ps next)
+    (splits_of cores (left_after_cut l cost) (unused_without core u) ps next)
 
 -- each piece fits beside those of its core
 pub splits_fit : (cores : List (List Piece)) (left : Left) (unused : List ℕ) (pieces : List Piece)
@@ -68,7 +68,7 @@ splits_fit cores left unused pieces there (Cut l u core cost piece ps cut is nex
           (All-contains (λ c. c < length cores) u core there cut.first.unused_core),
       room_for cores core (cut_of l cost) piece is cut.greatest.fits,
     )
-    (splits_fit cores (behind l cost) (without core u) ps
+    (splits_fit cores (left_after_cut l cost) (unused_without core u) ps
     (All-filter (λ c. not (c == core)) (λ c. c < length cores) u there) next)
 
 -- each is on an unused core
@@ -81,9 +81,9 @@ splits_unused cores left unused pieces (AtHome l u core piece first is) =
     (All-nil (λ (p : Piece). Contains u p.core))
 splits_unused cores left unused pieces (Cut l u core cost piece ps cut is next) =
     All-cons (λ (p : Piece). Contains u p.core) piece ps (subst (Contains u) (sym is.0) cut.first.unused_core)
-    (All-weaker (λ (p : Piece). Contains (without core u) p.core) (λ (p : Piece). Contains u p.core)
+    (All-weaker (λ (p : Piece). Contains (unused_without core u) p.core) (λ (p : Piece). Contains u p.core)
     (λ p there. still_unused core p.core u there) ps
-    (splits_unused cores (behind l cost) (without core u) ps next))
+    (splits_unused cores (left_after_cut l cost) (unused_without core u) ps next))
 
 -- one piece is on a core of its own
 apart_one : (piece : Piece) → StandApart (piece ∷ [])
@@ -105,11 +105,11 @@ pub splits_apart : (cores : List (List Piece)) (left : Left) (unused : List ℕ)
 splits_apart cores left unused pieces (AtHome l u core piece first is) = apart_one piece
 splits_apart cores left unused pieces (Cut l u core cost piece ps cut is next) =
     apart_cons piece ps
-    (All-weaker (λ (p : Piece). Contains (without core u) p.core)
+    (All-weaker (λ (p : Piece). Contains (unused_without core u) p.core)
     (λ (p : Piece). p.core ≢ piece.core)
     (λ p there e. not_without core p.core u there (e ∙ is.0)) ps
-    (splits_unused cores (behind l cost) (without core u) ps next))
-    (splits_apart cores (behind l cost) (without core u) ps next)
+    (splits_unused cores (left_after_cut l cost) (unused_without core u) ps next))
+    (splits_apart cores (left_after_cut l cost) (unused_without core u) ps next)
 
 -- the windows follow one another
 pub splits_follow : (cores : List (List Piece)) (left : Left) (unused : List ℕ) (pieces : List Piece)
@@ -120,7 +120,7 @@ splits_follow cores left unused pieces (AtHome l u core piece first is) =
 splits_follow cores left unused pieces (Cut l u core cost piece ps cut is next) = (
   ap (λ (s : Subtask). s.from) is.1,
   subst (λ n. HaveAdjacentWindows n l.period ps) (sym (ap (λ (s : Subtask). s.to) is.1))
-      (splits_follow cores (behind l cost) (without core u) ps next),
+      (splits_follow cores (left_after_cut l cost) (unused_without core u) ps next),
 )
 
 -- the costs are what is left
@@ -132,6 +132,6 @@ splits_cost cores left unused pieces (AtHome l u core piece first is) =
     ∙ (let cost = ap (λ (s : Subtask). s.cost) is.1 in omega arith)
 splits_cost cores left unused pieces (Cut l u core cost piece ps cut is next) =
     let here = ap (λ (s : Subtask). s.cost) is.1 in
-    let after = splits_cost cores (behind l cost) (without core u) ps next in
+    let after = splits_cost cores (left_after_cut l cost) (unused_without core u) ps next in
     let below = cut.greatest.part in
     sum_by-cons (λ (p : Piece). p.cost) piece ps ∙ omega arith

@@ -12,7 +12,7 @@ use Rattle.table_form.specs.Planning.Demand.{Fits}
 use Rattle.table_form.specs.Planning.Windows.{DistinctVcpus}
 use Rattle.edf_table.proofs.Pieces.{jobs_of-nil}
 use Rattle.edf_table.proofs.LoadLemmas.{demand_in-none}
-use Rattle.edf_table.specs.Overloads.{IsReported, IsReportedOf, core_of}
+use Rattle.edf_table.specs.Overloads.{IsReportedOf, IsReportedOverload, core_of}
 use Rattle.cd_split.specs.Cores.{LackVcpu, ShareCore, pieces_on}
 use Rattle.cd_split.specs.Splitting.{FitsWith, IsOverloadWith, IsPieceOf}
 
@@ -49,11 +49,11 @@ pub told_beside : (ps : List Piece) (p : Piece) (trial : List Piece) (found : Op
     → trial ≡ ps ++ p ∷ [] → All (λ q. q.core ≡ p.core) ps → IfNone found (Fits (jobs_of trial)) →
     IfSome found (IsReportedOf trial)
     → MatchOption found (FitsWith ps (subtask_of p))
-    (IsReported p.core (jobs_of ps ++ jobs_of_subtask (subtask_of p)))
+    (IsReportedOverload p.core (jobs_of ps ++ jobs_of_subtask (subtask_of p)))
 told_beside ps p trial None is own fits over = subst Fits (ap jobs_of is ∙ jobs_of-push ps p) fits
 told_beside ps p trial (Some o) is own fits over =
-    subst (λ js. IsReported p.core js o) (ap jobs_of is ∙ jobs_of-push ps p)
-    (subst (λ core. IsReported core (jobs_of trial) o) (ap core_of is ∙ core_of-push ps p own) over)
+    subst (λ js. IsReportedOverload p.core js o) (ap jobs_of is ∙ jobs_of-push ps p)
+    (subst (λ core. IsReportedOverload core (jobs_of trial) o) (ap core_of is ∙ core_of-push ps p own) over)
 
 -- a subtask that is reported to overload an interval doesn't fit
 pub not_both : (cores : List (List Piece)) (s : Subtask) (core : ℕ) (over : Over)

@@ -8,9 +8,9 @@ use Rattle.tab_core.specs.declared.periodic.Periodic.{Periodic}
 use Rattle.tab_core.specs.declared.piece.Piece.{Piece}
 use Rattle.table_form.specs.Planning.Jobs.{Job, Subtask}
 use Rattle.table_form.specs.Planning.Demand.{IsFirstOverload, demand_in}
-use Rattle.edf_table.specs.Overloads.{IsReported}
+use Rattle.edf_table.specs.Overloads.{IsReportedOverload}
 use Rattle.cd_split.specs.Shares.{IsSamePiece}
-use Rattle.cd_split.specs.Splitting.{ComesFirst, IsCut, IsFirstCore, IsGreatestCut, IsOverloadWith, IsPieceOf, IsSplit, IsSplitRefused, IsStuck, Left, Refuses, Splits, TakesCut, TakesRest, all_of, behind, core_numbers, cut_of, rest_of, without}
+use Rattle.cd_split.specs.Splitting.{ComesFirst, IsCut, IsFirstCore, IsGreatestCut, IsOverloadWith, IsPieceOf, IsSplit, IsSplitRefused, IsStuck, Left, Refuses, Splits, TakesCut, TakesRest, all_of, core_numbers, cut_of, left_after_cut, rest_of, unused_without}
 use Rattle.cd_split.specs.Splitting.Splits.{AtHome, Cut}
 use Rattle.cd_split.specs.Splitting.Refuses.{NoRoom, AfterCut}
 
@@ -53,10 +53,10 @@ cut_cost cores left unused c x d y a b =
 
 -- what is left after two greatest cuts is the same
 same_behind : (P : Left → List ℕ → Type 0) (left : Left) (unused : List ℕ) (c x d y : ℕ) → d ≡ c → y ≡ x
-    → P (behind left y) (without d unused) → P (behind left x) (without c unused)
+    → P (left_after_cut left y) (unused_without d unused) → P (left_after_cut left x) (unused_without c unused)
 same_behind P left unused c x d y core cost h =
-    subst (λ e. P (behind left x) (without e unused)) core
-    (subst (λ z. P (behind left z) (without d unused)) cost h)
+    subst (λ e. P (left_after_cut left x) (unused_without e unused)) core
+    (subst (λ z. P (left_after_cut left z) (unused_without d unused)) cost h)
 
 -- where there is a cut, splitting goes on
 never_stuck : (cores : List (List Piece)) (left : Left) (unused : List ℕ) (core cost : ℕ)
@@ -77,7 +77,7 @@ never_both cores left unused pieces rest over (Cut l u core cost piece ps cut is
     (NoRoom l' u' o stuck overs) = never_stuck cores l u core cost stuck cut
 never_both cores left unused pieces rest over (Cut l u core cost piece ps cut is next)
     (AfterCut l' u' d y r o cut' next') =
-    never_both cores (behind l cost) (without core u) ps r o next
+    never_both cores (left_after_cut l cost) (unused_without core u) ps r o next
     (same_behind (λ m v. Refuses cores m v r o) l u core cost d y
     (cut_core cores l u core cost d y cut cut') (cut_cost cores l u core cost d y cut cut') next')
 
@@ -103,13 +103,13 @@ splits_unique cores left unused ps qs (Cut l u core cost p ps' cut is next)
     let core_is = cut_core cores l u core cost d y cut cut' in
     let cost_is = cut_cost cores l u core cost d y cut cut' in (
       same_piece d core (cut_of l y) (cut_of l cost) q p is' is core_is (ap (cut_of l) cost_is),
-      splits_unique cores (behind l cost) (without core u) ps' qs' next
+      splits_unique cores (left_after_cut l cost) (unused_without core u) ps' qs' next
           (same_behind (λ m v. Splits cores m v qs') l u core cost d y core_is cost_is next'),
     )
 
 -- jobs have one reported interval on a core
-reported_unique : (core : ℕ) (jobs : List Job) (a b : Over) → IsReported core jobs a
-    → IsReported core jobs b → a ≡ b
+reported_unique : (core : ℕ) (jobs : List Job) (a b : Over) → IsReportedOverload core jobs a
+    → IsReportedOverload core jobs b → a ≡ b
 reported_unique core jobs a b of_a of_b =
     let to_low = of_a.first.least_end b.from b.to of_b.first.overloaded in
     let to_high = of_b.first.least_end a.from a.to of_a.first.overloaded in
@@ -152,7 +152,7 @@ refuses_unique cores left unused rest rest' over over' (AfterCut l u core cost r
     (NoRoom l' u' o' stuck overs) = absurd (never_stuck cores l u core cost stuck cut)
 refuses_unique cores left unused rest rest' over over' (AfterCut l u core cost r o cut next)
     (AfterCut l' u' d y r' o' cut' next') =
-    refuses_unique cores (behind l cost) (without core u) r r' o o' next
+    refuses_unique cores (left_after_cut l cost) (unused_without core u) r r' o o' next
     (same_behind (λ m v. Refuses cores m v r' o') l u core cost d y
     (cut_core cores l u core cost d y cut cut') (cut_cost cores l u core cost d y cut cut') next')
 

@@ -9,8 +9,8 @@ use Rattle.tab_core.specs.declared.periodic.Periodic.{Periodic}
 use Rattle.tab_core.specs.declared.piece.Piece.{Piece}
 use Rattle.table_form.specs.Planning.Jobs.{Subtask, jobs_of, jobs_of_subtask, subtask_of}
 use Rattle.edf_table.specs.Beside.{FitsBeside, remainder, tight}
-use Rattle.edf_table.specs.Overloads.{IsReported}
-use Rattle.edf_table.specs.Load.{load}
+use Rattle.edf_table.specs.Overloads.{IsReportedOverload}
+use Rattle.edf_table.specs.Load.{load_of_pieces}
 use Rattle.cd_split.specs.Cores.{pieces_on}
 
 -- the subtask fits beside these pieces of a core
@@ -33,8 +33,8 @@ abbrev pub all_of : ℕ → Periodic → Left
 all_of vcpu task = record { vcpu = vcpu; period = task.period; from = 0; rest = task.cost }
 
 -- what is left of a vCPU after a cut of so many ticks
-abbrev pub behind : Left → ℕ → Left
-behind left cost = record left { from = left.from + cost; rest = left.rest - cost }
+abbrev pub left_after_cut : Left → ℕ → Left
+left_after_cut left cost = record left { from = left.from + cost; rest = left.rest - cost }
 
 -- all that is left of a vCPU, as one subtask
 abbrev pub rest_of : Left → Subtask
@@ -47,8 +47,8 @@ cut_of left cost = tight left.vcpu cost left.from left.period
 -- core c comes before core d: its load is lower, or the same and its number lower
 abbrev pub ComesFirst : List (List Piece) → ℕ → ℕ → Type 0
 ComesFirst cores c d =
-    (load (pieces_on cores c) < load (pieces_on cores d))
-    ⊎ ((load (pieces_on cores c) ≡ load (pieces_on cores d)) × (c < d))
+    (load_of_pieces (pieces_on cores c) < load_of_pieces (pieces_on cores d))
+    ⊎ ((load_of_pieces (pieces_on cores c) ≡ load_of_pieces (pieces_on cores d)) × (c < d))
 
 -- the core is the first of the unused cores that do this
 pub record IsFirstCore (cores : List (List Piece)) (unused : List ℕ) (Does : ℕ → Type 0)
@@ -91,11 +91,11 @@ pub record IsStuck (cores : List (List Piece)) (left : Left) (unused : List ℕ)
 
 -- the reported overloaded interval of the core's pieces with the subtask
 abbrev pub IsOverloadWith : List (List Piece) → Subtask → ℕ → Over → Type 0
-IsOverloadWith cores s core over = IsReported core (jobs_of (pieces_on cores core) ++ jobs_of_subtask s) over
+IsOverloadWith cores s core over = IsReportedOverload core (jobs_of (pieces_on cores core) ++ jobs_of_subtask s) over
 
 -- the unused cores but this one
-abbrev pub without : ℕ → List ℕ → List ℕ
-without core unused = filter (λ other. not (other == core)) unused
+abbrev pub unused_without : ℕ → List ℕ → List ℕ
+unused_without core unused = filter (λ other. not (other == core)) unused
 
 -- by the rules what is left gets these pieces: rule 1 places the rest on its home, the first core
 -- that takes it, and rule 2 cuts and goes on
@@ -105,7 +105,7 @@ pub data Splits (cores : List (List Piece)) : Left → List ℕ → List Piece �
       → Splits cores left unused (piece ∷ [])
   Cut : (left : Left) (unused : List ℕ) (core cost : ℕ) (piece : Piece) (pieces : List Piece)
       → IsCut cores left unused core cost → IsPieceOf core (cut_of left cost) piece →
-      Splits cores (behind left cost) (without core unused) pieces
+      Splits cores (left_after_cut left cost) (unused_without core unused) pieces
       → Splits cores left unused (piece ∷ pieces)
 
 -- by the rules splitting ends without room for the last `rest` ticks, which would make these overloaded
@@ -116,7 +116,7 @@ pub data Refuses (cores : List (List Piece)) : Left → List ℕ → ℕ → Lis
       Refuses cores left unused left.rest over
   AfterCut : (left : Left) (unused : List ℕ) (core cost rest : ℕ) (over : List Over)
       → IsCut cores left unused core cost →
-      Refuses cores (behind left cost) (without core unused) rest over
+      Refuses cores (left_after_cut left cost) (unused_without core unused) rest over
       → Refuses cores left unused rest over
 
 -- the cores' numbers, rising

@@ -17,7 +17,7 @@ pub(crate) struct Left {
 
 impl Left {
     ghost use Rattle.cd_split.specs.Inside.Search.{left_of};
-    ghost use Rattle.cd_split.specs.Splitting.{IsPieceOf, all_of, behind, cut_of, rest_of};
+    ghost use Rattle.cd_split.specs.Splitting.{IsPieceOf, all_of, cut_of, left_after_cut, rest_of};
 
     // All of the vCPU.
     pub(crate) fn all_of(vcpu: VcpuNo, task: &Periodic) -> Left
@@ -74,7 +74,7 @@ impl Left {
     // What is left after a cut of so many ticks.
     pub(crate) fn behind(&self, cost: u32) -> Left
         requires { cost < self.now.rest }
-        ensures { left_of result ≡ behind (left_of self.now) cost }
+        ensures { left_of result ≡ left_after_cut (left_of self.now) cost }
     {
         Left {
             vcpu: self.vcpu,

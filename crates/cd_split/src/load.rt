@@ -3,14 +3,14 @@ ghost use Rattle.tab_core.specs.declared.TheConstants.{ROUND};
 ghost use Rattle.tab_core.specs.Period.{IsPeriod};
 ghost use Rattle.table_form.specs.Planning.Demand.{Fits};
 ghost use Rattle.table_form.specs.Planning.Jobs.{jobs_of};
-ghost use Rattle.edf_table.specs.Load.{load};
+ghost use Rattle.edf_table.specs.Load.{load_of_pieces};
 
 use tab_core::{Piece, ROUND};
 
 // What the pieces take of a round, in ticks.
 pub(crate) fn load_of(pieces: &[Piece]) -> u32
     requires { Fits (jobs_of pieces.now) }
-    ensures value { result ≡ load pieces.now }
+    ensures value { result ≡ load_of_pieces pieces.now }
     ensures small { result ≤ ROUND }
 {
     let mut sum = 0;

@@ -16,7 +16,7 @@ use Rattle.table_form.specs.Planning.Drafts.{HaveOwnCores, pieces_at}
 use Rattle.table_form.proofs.Filters.{slice_get-filter}
 use Rattle.table_form.proofs.Sets.{nobody_has}
 use Rattle.coalesce.specs.Joining.{has_single_piece}
-use Rattle.coalesce.specs.Inside.Passing.{IsTableOf}
+use Rattle.coalesce.specs.Inside.Passing.{IsPieceTableOf}
 use Rattle.coalesce.proofs.Members.{slice_get-append_cases, slice_get-set_other}
 
 -- an empty table
@@ -28,7 +28,7 @@ empty_listed (suc n) zero p at = absurd cc
 empty_listed (suc n) (suc v) p at = empty_listed n v p at
 
 -- the table begins without a piece
-pub empty_table : IsTableOf [] (replicate MAX_VCPUS None)
+pub empty_table : IsPieceTableOf [] (replicate MAX_VCPUS None)
 empty_table = record {
   size = length-replicate MAX_VCPUS (let none : Option Piece = None in none);
   listed = λ v p at. absurd (empty_listed MAX_VCPUS v p at);
@@ -38,7 +38,7 @@ empty_table = record {
 -- one piece more, of another vCPU
 pub table_more : (pieces : List Piece) (table : List (Option Piece)) (p : Piece) →
     ((at : ℕ) (q : Piece) → slice_get pieces at ≡ Some q → q.vcpu ≢ p.vcpu)
-    → IsTableOf pieces table → IsTableOf (pieces ++ p ∷ []) (set table p.vcpu (Some p))
+    → IsPieceTableOf pieces table → IsPieceTableOf (pieces ++ p ∷ []) (set table p.vcpu (Some p))
 table_more pieces table p others is =
     let here : slice_get (set table p.vcpu (Some p)) p.vcpu ≡ Some (Some p) =
     set_here table p.vcpu (Some p)
@@ -104,7 +104,7 @@ before_is_earlier (q ∷ qs) (suc i) (suc j) p at =
 pub next_here : (pieces : List Piece) (core i : ℕ) (p : Piece) (table : List (Option Piece))
     → HaveOwnCores pieces
     → i < length pieces → p ≡ get_or pieces i p → p.core ≡ core
-    → IsTableOf (pieces_at (take i pieces) core) table → IsTableOf (pieces_at (take (i + 1) pieces) core)
+    → IsPieceTableOf (pieces_at (take i pieces) core) table → IsPieceTableOf (pieces_at (take (i + 1) pieces) core)
     (set table p.vcpu (Some p))
 next_here pieces core i p table own lt is here of =
     let test : Piece → Bool = λ q. eqb q.core core in
@@ -113,7 +113,7 @@ next_here pieces core i p table own lt is here of =
     ∙ filter-append test
     (take i pieces) (p ∷ [])
     ∙ ap (λ qs. pieces_at (take i pieces) core ++ qs) (kept p (eq-eqb p.core core here)) in
-    subst (λ ps. IsTableOf ps (set table p.vcpu (Some p))) (sym more)
+    subst (λ ps. IsPieceTableOf ps (set table p.vcpu (Some p))) (sym more)
     (table_more (pieces_at (take i pieces) core) table p (λ at q found same. (
     let kept = slice_get-filter test (take i pieces) at q found in
     let early = before_is_earlier pieces i kept.place q kept.at in
@@ -128,8 +128,8 @@ next_here pieces core i p table own lt is here of =
 pub next_elsewhere : (pieces : List Piece) (core i : ℕ) (p : Piece) (table : List (Option Piece))
     → i < length pieces
     → p ≡ get_or pieces i p → p.core ≢ core
-    → IsTableOf (pieces_at (take i pieces) core) table
-    → IsTableOf (pieces_at (take (i + 1) pieces) core) table
+    → IsPieceTableOf (pieces_at (take i pieces) core) table
+    → IsPieceTableOf (pieces_at (take (i + 1) pieces) core) table
 next_elsewhere pieces core i p table lt is elsewhere of =
     let test : Piece → Bool = λ q. eqb q.core core in
     let same : pieces_at (take (i + 1) pieces) core ≡ pieces_at (take i pieces) core
@@ -138,7 +138,7 @@ next_elsewhere pieces core i p table lt is elsewhere of =
     (take i pieces) (p ∷ [])
     ∙ ap (λ qs. pieces_at (take i pieces) core ++ qs) (dropped p (ne_eqb p.core core elsewhere)) ∙ append-nil
     (pieces_at (take i pieces) core) in
-    subst (λ ps. IsTableOf ps table) (sym same) of
+    subst (λ ps. IsPieceTableOf ps table) (sym same) of
   where
     dropped : (p : Piece) → eqb p.core core ≡ false → filter (λ (q : Piece). eqb q.core core) (p ∷ []) ≡ []
     dropped p fail = rw fail refl
@@ -286,7 +286,7 @@ pub record IsLeftOf (pieces : List Piece) (n : ℕ) (table : List (Option Piece)
 
 -- at first those of a core's pieces
 pub left_first : (pieces : List Piece) (core : ℕ) (table : List (Option Piece))
-    → IsTableOf (pieces_at pieces core) table → IsLeftOf pieces 0 table
+    → IsPieceTableOf (pieces_at pieces core) table → IsLeftOf pieces 0 table
 left_first pieces core table is = record {
   size = is.size;
   later = λ v p at.
@@ -331,7 +331,7 @@ left_less pieces n p table lt is left = record {
 
 -- after the last piece nothing is left
 pub left_none : (pieces : List Piece) (n : ℕ) (table : List (Option Piece)) → length pieces ≤ n
-    → IsLeftOf pieces n table → IsTableOf [] table
+    → IsLeftOf pieces n table → IsPieceTableOf [] table
 left_none pieces n table all left = record {
   size = left.size;
   listed = λ v p at. absurd (let later = left.later v p at in

@@ -6,7 +6,7 @@ use Rattle.tab_core.proofs.Lists.{drop_next, rest_later}
 use Rattle.table_form.specs.Tables.Rows.{RisesTo, cells_from}
 use Rattle.table_form.specs.Tables.Segments.{AreMaximal, SegmentView, put_front, segment_view, segments_from}
 use Rattle.table_form.specs.declared.segment.Segment.{Segment}
-use Rattle.coalesce.specs.Joining.{filled, filled_after, given, is_given}
+use Rattle.coalesce.specs.Joining.{filled, filled_after, given_sliver, is_given}
 use Rattle.coalesce.specs.Inside.Passing.{given_all}
 use Rattle.coalesce.proofs.Swapping.{front_length}
 use Rattle.table_form.proofs.RowLemmas.{cells-nil, rises_from_parts, rises_here}
@@ -14,11 +14,11 @@ use Rattle.table_form.proofs.SegmentLemmas.{maximal_front, segments_from-nil, se
 
 -- a segment ends where it did
 pub given_end : (may_grow : ℕ → Bool) (sliver : ℕ) (x y : SegmentView)
-    → (given may_grow sliver x y).end ≡ y.end
+    → (given_sliver may_grow sliver x y).end ≡ y.end
 given_end may_grow sliver x y = by_test (is_given may_grow sliver x.owner y.owner (y.end - x.end)) refl
   where
     by_test : (b : Bool) → is_given may_grow sliver x.owner y.owner (y.end - x.end) ≡ b →
-        (given may_grow sliver x y).end ≡ y.end
+        (given_sliver may_grow sliver x y).end ≡ y.end
     by_test true e = rw e refl
     by_test false e = rw e refl
 
@@ -30,7 +30,7 @@ filled_after_maximal may_grow sliver start x [] end m = m
 filled_after_maximal may_grow sliver start x (y ∷ ts) end m =
     let e = given_end may_grow sliver x y in
     let rest = filled_after_maximal may_grow sliver y.end y ts end m.2 in
-    maximal_front start (given may_grow sliver x y) (filled_after may_grow sliver y ts) end
+    maximal_front start (given_sliver may_grow sliver x y) (filled_after may_grow sliver y ts) end
     (omega (arith, e, m.0))
     (subst (λ n. AreMaximal n (filled_after may_grow sliver y ts) end) (sym e) rest)
 
@@ -49,7 +49,7 @@ filled_after_length may_grow sliver x [] = omega arith
 filled_after_length may_grow sliver x (y ∷ ts) =
     omega (
       arith,
-      front_length (given may_grow sliver x y)
+      front_length (given_sliver may_grow sliver x y)
           (filled_after may_grow sliver y ts),
       filled_after_length may_grow sliver y ts,
     )
@@ -59,12 +59,12 @@ filled_after_length may_grow sliver x (y ∷ ts) =
 -- an idle segment that is given has the owner of the one before it
 pub given_when : (may_grow : ℕ → Bool) (sliver : ℕ) (x y : SegmentView)
     → is_given may_grow sliver x.owner y.owner (y.end - x.end) ≡ true
-    → record { owner = x.owner; end = y.end } ≡ given may_grow sliver x y
+    → record { owner = x.owner; end = y.end } ≡ given_sliver may_grow sliver x y
 given_when may_grow sliver x y is = rw is refl
 
 -- a segment that isn't given keeps its own owner
 pub given_unless : (may_grow : ℕ → Bool) (sliver : ℕ) (x y : SegmentView)
-    → is_given may_grow sliver x.owner y.owner (y.end - x.end) ≡ false → y ≡ given may_grow sliver x y
+    → is_given may_grow sliver x.owner y.owner (y.end - x.end) ≡ false → y ≡ given_sliver may_grow sliver x y
 given_unless may_grow sliver x y isnt = rw isnt refl
 
 -- with the given owners the ends rise as they did
@@ -76,8 +76,8 @@ given_rise may_grow sliver start x [] (s ∷ ss) end m is = absurd cc
 given_rise may_grow sliver start x (y ∷ ys) [] end m is = absurd cc
 given_rise may_grow sliver start x (y ∷ ys) (s ∷ ss) end m is =
     let both : segment_view s ∷ map segment_view ss
-    ≡ given may_grow sliver x y ∷ given_all may_grow sliver y ys = is in
-    let here : segment_view s ≡ given may_grow sliver x y = cc in
+    ≡ given_sliver may_grow sliver x y ∷ given_all may_grow sliver y ys = is in
+    let here : segment_view s ≡ given_sliver may_grow sliver x y = cc in
     let there : map segment_view ss ≡ given_all may_grow sliver y ys = cc in
     let same : s.end ≡ y.end = ap (λ (t : SegmentView). t.end) here ∙ given_end may_grow sliver x y in
     rises_from_parts start s ss end (omega (arith, m.0, same))
@@ -94,13 +94,13 @@ given_filled may_grow sliver start x [] (s ∷ ss) end m is = absurd cc
 given_filled may_grow sliver start x (y ∷ ys) [] end m is = absurd cc
 given_filled may_grow sliver start x (y ∷ ys) (s ∷ ss) end m is =
     let both : segment_view s ∷ map segment_view ss
-    ≡ given may_grow sliver x y ∷ given_all may_grow sliver y ys = is in
-    let here : segment_view s ≡ given may_grow sliver x y = cc in
+    ≡ given_sliver may_grow sliver x y ∷ given_all may_grow sliver y ys = is in
+    let here : segment_view s ≡ given_sliver may_grow sliver x y = cc in
     let there : map segment_view ss ≡ given_all may_grow sliver y ys = cc in
     let same : s.end ≡ y.end = ap (λ (t : SegmentView). t.end) here ∙ given_end may_grow sliver x y in
     segments_from-segment start s ss (omega (arith, m.0, same))
     ∙ (ap (λ t. put_front t (segments_from s.end (cells_from s.end ss))) here
-    ∙ ap (put_front (given may_grow sliver x y)) (given_filled may_grow sliver s.end y ys ss end
+    ∙ ap (put_front (given_sliver may_grow sliver x y)) (given_filled may_grow sliver s.end y ys ss end
     (subst (λ n. AreMaximal n ys end) (sym same) m.2) there))
 
 -- the segments below this index have the owners that they are given
@@ -131,7 +131,7 @@ next_given may_grow sliver old now at before s lt is so_far =
 -- one segment more, with its owner
 pub one_given : (may_grow : ℕ → Bool) (sliver : ℕ) (old now : List Segment) (at : ℕ) (before : SegmentView)
     (s t : Segment) → at < length now → s ≡ get_or now at s
-    → segment_view t ≡ given may_grow sliver before (segment_view s)
+    → segment_view t ≡ given_sliver may_grow sliver before (segment_view s)
     → HasGiven may_grow sliver old now at before
     → HasGiven may_grow sliver old (set now at t) (at + 1) (segment_view s)
 one_given may_grow sliver old now at before s t lt is owned so_far =
@@ -153,7 +153,7 @@ one_given may_grow sliver old now at before s t lt is owned so_far =
 -- one that has its own
 pub one_left : (may_grow : ℕ → Bool) (sliver : ℕ) (old now : List Segment) (at : ℕ) (before : SegmentView)
     (s : Segment) → at < length now → s ≡ get_or now at s
-    → segment_view s ≡ given may_grow sliver before (segment_view s)
+    → segment_view s ≡ given_sliver may_grow sliver before (segment_view s)
     → HasGiven may_grow sliver old now at before
     → HasGiven may_grow sliver old now (at + 1) (segment_view s)
 one_left may_grow sliver old now at before s lt is own so_far =

@@ -8,7 +8,7 @@ use Rattle.tab_core.proofs.Lists.{get_front}
 use Rattle.table_form.specs.Tables.Rows.{Row}
 use Rattle.table_form.specs.Tables.Serves.{cells_within, is_cell_of}
 use Rattle.table_form.specs.Tables.Segments.{AreMaximal, SegmentView}
-use Rattle.coalesce.specs.Joining.{filled_after, given, is_given}
+use Rattle.coalesce.specs.Joining.{filled_after, given_sliver, is_given}
 use Rattle.coalesce.proofs.Filled.{filled_after_maximal, given_end}
 use Rattle.coalesce.proofs.Moved.{get_behind, get_replicate}
 use Rattle.table_form.proofs.SegmentLemmas.{cells_of, cells_of-cons, cells_of-nil, cells_of_front}
@@ -112,7 +112,7 @@ pub data IsGift (may_grow : ℕ → Bool) (x y : SegmentView) (owner : Option �
 
 -- the rule's test as one of the two cases
 gift_of : (may_grow : ℕ → Bool) (sliver : ℕ) (x y : SegmentView)
-    → IsGift may_grow x y (given may_grow sliver x y).owner
+    → IsGift may_grow x y (given_sliver may_grow sliver x y).owner
 gift_of may_grow sliver x y = by_test (is_given may_grow sliver x.owner y.owner (y.end - x.end)) refl
   where
     owners : (o u : Option ℕ) → x.owner ≡ o → y.owner ≡ u
@@ -124,7 +124,7 @@ gift_of may_grow sliver x y = by_test (is_given may_grow sliver x.owner y.owner 
         (and_parts (ltb (y.end - x.end) sliver) (may_grow v) holds).1 refl
 
     by_test : (b : Bool) → is_given may_grow sliver x.owner y.owner (y.end - x.end) ≡ b → IsGift may_grow x y
-        (given may_grow sliver x y).owner
+        (given_sliver may_grow sliver x y).owner
     by_test true holds = rw holds (owners x.owner y.owner refl refl holds)
     by_test false no_ = rw no_ (Kept refl)
 
@@ -138,9 +138,9 @@ gift_grows may_grow x y owner (Gift v of_x of_y may is) = Gets of_y v may (is �
 filled_cells : (may_grow : ℕ → Bool) (sliver start : ℕ) (x y : SegmentView) (ts : List SegmentView) (end : ℕ)
     → AreMaximal start (y ∷ ts) end
     → cells_of start (filled_after may_grow sliver x (y ∷ ts)) ≡ replicate (y.end - start)
-    (given may_grow sliver x y).owner ++ cells_of y.end (filled_after may_grow sliver y ts)
+    (given_sliver may_grow sliver x y).owner ++ cells_of y.end (filled_after may_grow sliver y ts)
 filled_cells may_grow sliver start x y ts end m =
-    let g = given may_grow sliver x y in
+    let g = given_sliver may_grow sliver x y in
     let e = given_end may_grow sliver x y in
     let rest = subst (λ n. AreMaximal n (filled_after may_grow sliver y ts) end) (sym e)
     (filled_after_maximal may_grow sliver y.end y ts end m.2) in
@@ -157,11 +157,11 @@ filled_grows may_grow sliver start x [] end m =
 filled_grows may_grow sliver start x (y ∷ ts) end m =
     subst (Grows may_grow (cells_of start (y ∷ ts)))
     (sym (filled_cells may_grow sliver start x y ts end m))
-    (subst (λ row. Grows may_grow row (replicate (y.end - start) (given may_grow sliver x y).owner
+    (subst (λ row. Grows may_grow row (replicate (y.end - start) (given_sliver may_grow sliver x y).owner
     ++ cells_of y.end (filled_after may_grow sliver y ts))) (sym (cells_of-cons start y ts))
-    (grows_run may_grow (y.end - start) y.owner (given may_grow sliver x y).owner (cells_of y.end ts)
+    (grows_run may_grow (y.end - start) y.owner (given_sliver may_grow sliver x y).owner (cells_of y.end ts)
     (cells_of y.end (filled_after may_grow sliver y ts))
-    (gift_grows may_grow x y (given may_grow sliver x y).owner (gift_of may_grow sliver x y))
+    (gift_grows may_grow x y (given_sliver may_grow sliver x y).owner (gift_of may_grow sliver x y))
     (filled_grows may_grow sliver y.end y ts end m.2)))
 
 -- a cell after the segment x is as before, or of a vCPU that may grow and has x or a cell
@@ -184,7 +184,7 @@ pub grown_cell : (may_grow : ℕ
 grown_cell may_grow sliver start x [] end place v m at = Was at
 grown_cell may_grow sliver start x (y ∷ ts) end place v m at =
     let n = y.end - start in
-    let g = given may_grow sliver x y in
+    let g = given_sliver may_grow sliver x y in
     let rest = cells_of y.end (filled_after may_grow sliver y ts) in
     let run : Option ℕ → Row = λ o. replicate n o in
     let is = sym (ap (λ row. slice_get row place) (filled_cells may_grow sliver start x y ts end m)) ∙ at in
@@ -212,8 +212,8 @@ grown_cell may_grow sliver start x (y ∷ ts) end place v m at =
         (replicate (y.end - start) y.owner) (cells_of y.end ts) i j
         (omega (arith, length-replicate (y.end - start) y.owner, e))
 
-    first_run : place < y.end - start → (given may_grow sliver x y).owner ≡ Some v → IsGift may_grow x y
-        (given may_grow sliver x y).owner → IsGrownCell may_grow x.owner (cells_of start (y ∷ ts)) place v
+    first_run : place < y.end - start → (given_sliver may_grow sliver x y).owner ≡ Some v → IsGift may_grow x y
+        (given_sliver may_grow sliver x y).owner → IsGrownCell may_grow x.owner (cells_of start (y ∷ ts)) place v
     first_run here owner (Kept same) = Was (at_run place here ∙ ap Some (sym same ∙ owner))
     first_run here owner (Gift w of_x of_y may is) =
         let of_v : x.owner ≡ Some v = sym is ∙ owner in

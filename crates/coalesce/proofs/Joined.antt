@@ -5,13 +5,13 @@ use Rattle.tab_core.specs.declared.piece.Piece.{Piece}
 use Rattle.table_form.specs.Planning.Drafts.{pieces_at}
 use Rattle.table_form.specs.Tables.Rows.{Row}
 use Rattle.table_form.specs.Tables.Segments.{SegmentView, put_front, segments_from}
-use Rattle.coalesce.specs.Joining.{AreJoined, IsJoined, filled_after, given, is_given, may_have_more}
+use Rattle.coalesce.specs.Joining.{AreJoined, IsJoined, filled_after, given_sliver, is_given, may_have_more}
 use Rattle.coalesce.proofs.Filled.{filled_after_length}
 use Rattle.coalesce.proofs.Swapping.{swaps_shorten}
 
 -- only whether each vCPU may grow counts
 same_given : (f g : ℕ → Bool) (sliver : ℕ) (x y : SegmentView) → ((v : ℕ) → f v ≡ g v)
-    → given f sliver x y ≡ given g sliver x y
+    → given_sliver f sliver x y ≡ given_sliver g sliver x y
 same_given f g sliver x y same = ap (λ b. cond b (record { owner = x.owner; end = y.end }) y)
     (same_test x.owner y.owner (y.end - x.end))
   where
@@ -26,7 +26,7 @@ same_filled : (f g : ℕ → Bool) (sliver : ℕ) (x : SegmentView) (ts : List S
 same_filled f g sliver x [] same = refl
 same_filled f g sliver x (y ∷ ts) same =
     ap (λ s. put_front s (filled_after f sliver y ts)) (same_given f g sliver x y same) ∙ ap
-    (put_front (given g sliver x y)) (same_filled f g sliver y ts same)
+    (put_front (given_sliver g sliver x y)) (same_filled f g sliver y ts same)
 
 -- which lets the code's set stand for the count of pieces
 pub joined_by : (pieces : List Piece) (f g : ℕ → Bool) (sliver : ℕ) (row joined : Row) → ((v : ℕ) → f v ≡ g v)

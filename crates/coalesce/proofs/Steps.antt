@@ -10,7 +10,7 @@ use Rattle.table_form.proofs.AppendingLemmas.{before_last_two, before_nothing, b
 use Rattle.table_form.proofs.SegmentLemmas.{front_stays, maximal_end}
 use Rattle.coalesce.specs.Joining.{CanSwap, NoSwap, SwapsLeftmost, SwapsTo, swapped}
 use Rattle.coalesce.specs.Joining.SwapsTo.{Again, Done}
-use Rattle.coalesce.specs.Inside.Passing.{CanSwapLast, EndBelow, IsPassed, IsTableOf, StandInRow}
+use Rattle.coalesce.specs.Inside.Passing.{CanSwapLast, EndBelow, IsPassed, IsPieceTableOf, StandInRow}
 use Rattle.coalesce.proofs.Ends.{ends_before}
 use Rattle.coalesce.proofs.Quiet.{append_quiet, two_grow}
 use Rattle.coalesce.proofs.Swapping.{parts_of}
@@ -107,7 +107,7 @@ passed_after_append pieces sliver row out s rest stand cannot passed =
 pub record HasPassed (segments : List Segment) (table : List (Option Piece)) (sliver at : ℕ)
     (out : List SegmentView) : Type 0 where
   pub stands : StandInRow out (map segment_view (drop at segments))
-  pub passed : (pieces : List Piece) → IsTableOf pieces table
+  pub passed : (pieces : List Piece) → IsPieceTableOf pieces table
       → IsPassed pieces sliver (map segment_view segments) out (map segment_view (drop at segments))
 
 -- before the first segment
@@ -124,10 +124,10 @@ pub record Comes (segments : List Segment) (table : List (Option Piece)) (sliver
   pub rest : List SegmentView
   pub in_round : s.end ≤ ROUND
   pub stands : StandInRow out (segment_view s ∷ rest)
-  pub passed : (pieces : List Piece) → IsTableOf pieces table
+  pub passed : (pieces : List Piece) → IsPieceTableOf pieces table
       → IsPassed pieces sliver (map segment_view segments) out (segment_view s ∷ rest)
   pub after : (new : List SegmentView) → StandInRow new rest →
-      ((pieces : List Piece) → IsTableOf pieces table
+      ((pieces : List Piece) → IsPieceTableOf pieces table
       → IsPassed pieces sliver (map segment_view segments) new rest)
       → HasPassed segments table sliver (at + 1) new
 
@@ -166,7 +166,7 @@ below_next out s rest stand = record {
 pub record Ended (segments : List Segment) (table : List (Option Piece)) (sliver : ℕ)
     (out : List SegmentView) : Type 0 where
   pub maximal : AreMaximal 0 out ROUND
-  pub swaps : (pieces : List Piece) → IsTableOf pieces table
+  pub swaps : (pieces : List Piece) → IsPieceTableOf pieces table
       → SwapsTo pieces sliver out (map segment_view segments)
 
 -- what came is then the row that no swap changes

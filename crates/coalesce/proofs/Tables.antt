@@ -8,7 +8,7 @@ use Rattle.tab_core.specs.declared.TheConstants.{MAX_VCPUS}
 use Rattle.tab_core.specs.declared.piece.Piece.{Piece}
 use Rattle.table_form.specs.Tables.Segments.{SegmentView}
 use Rattle.coalesce.specs.Joining.{CanSwap, NoBegin, NoEnd}
-use Rattle.coalesce.specs.Inside.Passing.{IsTableOf}
+use Rattle.coalesce.specs.Inside.Passing.{IsPieceTableOf}
 
 -- what is at the vCPU's number
 pub at_number : (table : List (Option Piece)) (v i : ℕ) (d o : Option Piece)
@@ -19,7 +19,7 @@ at_number table v i d o size same lt is = ap (slice_get table) (sym same) ∙ sl
 
 -- where the table has nothing the vCPU has no piece here
 pub none_listed : (pieces : List Piece) (table : List (Option Piece)) (v at : ℕ) (p : Piece)
-    → IsTableOf pieces table
+    → IsPieceTableOf pieces table
     → slice_get table v ≡ Some None
     → slice_get pieces at ≡ Some p → p.vcpu ≡ v → ⊥
 none_listed pieces table v at p is none listed own = clash
@@ -30,7 +30,7 @@ none_listed pieces table v at p is none listed own = clash
 
 -- where it has a piece the vCPU has that one alone
 pub one_listed : (pieces : List Piece) (table : List (Option Piece)) (v at : ℕ) (p q : Piece)
-    → IsTableOf pieces table
+    → IsPieceTableOf pieces table
     → slice_get table v ≡ Some (Some q)
     → slice_get pieces at ≡ Some p → p.vcpu ≡ v → p ≡ q
 one_listed pieces table v at p q is some listed own = inside
@@ -65,7 +65,7 @@ NoneAt offset pieces vcpu low high = (at k : ℕ) (p : Piece) → slice_get piec
 -- as the first after the lower one tells
 pub none_by_next : (offset : Piece → ℕ) (pieces : List Piece) (table : List (Option Piece))
     (v low high next : ℕ)
-    (q : Piece) → IsTableOf pieces table → slice_get table v ≡ Some (Some q)
+    (q : Piece) → IsPieceTableOf pieces table → slice_get table v ≡ Some (Some q)
     → low < next → (k : ℕ) × (next ≡ k * q.period + offset q) →
     ((k : ℕ) → low < k * q.period + offset q → next ≤ k * q.period + offset q)
     → (IsTrue (leb high next) → NoneAt offset pieces v low high) ×

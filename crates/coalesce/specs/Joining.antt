@@ -73,15 +73,15 @@ is_given may_grow sliver None o ticks = false
 is_given may_grow sliver (Some v) (Some w) ticks = false
 
 -- a segment, with the owner of the one before it where it is given to that
-abbrev pub given : (ℕ → Bool) → ℕ → SegmentView → SegmentView → SegmentView
-given may_grow sliver x y =
+abbrev pub given_sliver : (ℕ → Bool) → ℕ → SegmentView → SegmentView → SegmentView
+given_sliver may_grow sliver x y =
     if is_given may_grow sliver x.owner y.owner (y.end - x.end) then record y { owner = x.owner } else y
 
 -- each short idle segment goes to the vCPU before it, if that may have more; `x` is the segment before these
 abbrev pub filled_after : (ℕ → Bool) → ℕ → SegmentView → List SegmentView → List SegmentView
 filled_after may_grow sliver x [] = []
 filled_after may_grow sliver x (y ∷ rest) =
-    put_front (given may_grow sliver x y) (filled_after may_grow sliver y rest)
+    put_front (given_sliver may_grow sliver x y) (filled_after may_grow sliver y rest)
 
 -- no vCPU is before the first segment
 abbrev pub filled : (ℕ → Bool) → ℕ → List SegmentView → List SegmentView

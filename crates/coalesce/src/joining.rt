@@ -7,7 +7,7 @@ ghost use Rattle.table_form.specs.Tables.Rows.{Row};
 ghost use Rattle.table_form.specs.Tables.Serves.{cells_within};
 ghost use Rattle.table_form.specs.Tables.Segments.{segments_from};
 ghost use Rattle.coalesce.specs.Joining.{AreJoined, IsJoined};
-ghost use Rattle.coalesce.specs.Inside.Passing.{IsTableOf};
+ghost use Rattle.coalesce.specs.Inside.Passing.{IsPieceTableOf};
 
 use crate::filling::fill_all;
 use crate::pass::swap_all;
@@ -25,7 +25,7 @@ fn join_row(
     sliver: u32,
 ) -> Result<CoreTable, NoMemory>
     requires { length table.now ≡ MAX_VCPUS }
-    ensures { (pieces : List Piece) → IsTableOf pieces table.now
+    ensures { (pieces : List Piece) → IsPieceTableOf pieces table.now
         → IfOk result (IsJoined pieces (has_vcpu may_grow.now) sliver row.now) }
 {
     let swapped = swap_all(alloc, row.segments(), table, sliver)?;

@@ -4,7 +4,7 @@ ghost use Rattle.tab_core.specs.declared.piece.Piece.{Piece};
 ghost use Rattle.table_form.specs.Tables.Segments.{AreMaximal, SegmentView, segment_view};
 ghost use Rattle.table_form.specs.declared.segment.Segment.{Segment};
 ghost use Rattle.coalesce.specs.Joining.{SwapsTo};
-ghost use Rattle.coalesce.specs.Inside.Passing.{CanSwapLast, EndBelow, IsPassed, IsTableOf, StandInRow};
+ghost use Rattle.coalesce.specs.Inside.Passing.{CanSwapLast, EndBelow, IsPassed, IsPieceTableOf, StandInRow};
 
 use crate::swap::can_swap;
 use std::alloc::Global;
@@ -38,7 +38,7 @@ fn can_swap_last(out: &[Segment], next: &Segment, table: &[Option<Piece>], slive
     requires sized { length table.now ≡ MAX_VCPUS }
     requires below { EndBelow (map segment_view out.now) next.now.end }
     requires in_round { next.now.end ≤ ROUND }
-    ensures swap { (pieces : List Piece) → IsTableOf pieces table.now
+    ensures swap { (pieces : List Piece) → IsPieceTableOf pieces table.now
         → (IsTrue result ↔ CanSwapLast pieces sliver (map segment_view out.now) (segment_view next.now)) }
     ensures two { IsTrue result → 2 ≤ length out.now }
 {
@@ -59,7 +59,7 @@ fn take_next(
     ensures stands { (rest : List SegmentView) → StandInRow (map segment_view out.old.items)
         (segment_view next ∷ rest)
         → OnOk result (StandInRow (map segment_view out.new.items) rest) }
-    ensures passed { (pieces : List Piece) (row rest : List SegmentView) → IsTableOf pieces table.now
+    ensures passed { (pieces : List Piece) (row rest : List SegmentView) → IsPieceTableOf pieces table.now
         → StandInRow (map segment_view out.old.items) (segment_view next ∷ rest)
         → IsPassed pieces sliver row (map segment_view out.old.items) (segment_view next ∷ rest)
         → OnOk result (IsPassed pieces sliver row (map segment_view out.new.items) rest) }
@@ -83,7 +83,7 @@ pub(crate) fn swap_all(
     requires sized { length table.now ≡ MAX_VCPUS }
     requires maximal { AreMaximal 0 (map segment_view segments.now) ROUND }
     ensures maximal { IfOk result (λ out. AreMaximal 0 (map segment_view out.items) ROUND) }
-    ensures swaps { (pieces : List Piece) → IsTableOf pieces table.now
+    ensures swaps { (pieces : List Piece) → IsPieceTableOf pieces table.now
         → IfOk result (λ out. SwapsTo pieces sliver (map segment_view out.items)
         (map segment_view segments.now)) }
 {

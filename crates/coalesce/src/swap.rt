@@ -3,7 +3,7 @@ ghost use Rattle.tab_core.specs.declared.TheConstants.{MAX_VCPUS, ROUND};
 ghost use Rattle.tab_core.specs.declared.piece.Piece.{Piece};
 ghost use Rattle.table_form.specs.Tables.Segments.{segment_view};
 ghost use Rattle.coalesce.specs.Joining.{CanSwap, NoBegin, NoEnd};
-ghost use Rattle.coalesce.specs.Inside.Passing.{IsTableOf};
+ghost use Rattle.coalesce.specs.Inside.Passing.{IsPieceTableOf};
 
 use tab_core::{Piece, VcpuNo};
 use table_form::{Segment, next_at};
@@ -12,7 +12,7 @@ use table_form::{Segment, next_at};
 fn has_no_begin(table: &[Option<Piece>], vcpu: VcpuNo, low: u32, high: u32) -> bool
     requires sized { length table.now ≡ MAX_VCPUS }
     requires in_round { low < ROUND }
-    ensures { (pieces : List Piece) → IsTableOf pieces table.now
+    ensures { (pieces : List Piece) → IsPieceTableOf pieces table.now
         → (IsTrue result ↔ NoBegin pieces vcpu low high) }
 {
     match table[vcpu.index()] {
@@ -25,7 +25,7 @@ fn has_no_begin(table: &[Option<Piece>], vcpu: VcpuNo, low: u32, high: u32) -> b
 fn has_no_end(table: &[Option<Piece>], vcpu: VcpuNo, low: u32, high: u32) -> bool
     requires sized { length table.now ≡ MAX_VCPUS }
     requires in_round { low < ROUND }
-    ensures { (pieces : List Piece) → IsTableOf pieces table.now
+    ensures { (pieces : List Piece) → IsPieceTableOf pieces table.now
         → (IsTrue result ↔ NoEnd pieces vcpu low high) }
 {
     match table[vcpu.index()] {
@@ -45,7 +45,7 @@ pub(crate) fn can_swap(
     requires sized { length table.now ≡ MAX_VCPUS }
     requires rises { x.now.end < y.now.end }
     requires in_round { y.now.end < ROUND }
-    ensures { (pieces : List Piece) → IsTableOf pieces table.now
+    ensures { (pieces : List Piece) → IsPieceTableOf pieces table.now
         → (IsTrue result
         ↔ CanSwap pieces sliver (segment_view x.now) (segment_view y.now) (segment_view z.now)) }
 {

@@ -3,14 +3,14 @@ ghost use Rattle.tab_core.specs.VcpuSets.{has_vcpu};
 ghost use Rattle.tab_core.specs.declared.TheConstants.{MAX_VCPUS};
 ghost use Rattle.table_form.specs.Planning.Drafts.{HaveOwnCores, pieces_at};
 ghost use Rattle.coalesce.specs.Joining.{has_single_piece};
-ghost use Rattle.coalesce.specs.Inside.Passing.{IsTableOf};
+ghost use Rattle.coalesce.specs.Inside.Passing.{IsPieceTableOf};
 
 use std::alloc::Global;
 use tab_core::{CoreNo, MAX_VCPUS, NoMemory, Piece, VcpuSet};
 
 // A table of no piece.
 pub(crate) fn empty_table(alloc: Global) -> Result<Vec<Option<Piece>>, NoMemory>
-    ensures { IfOk result (λ table. IsTableOf [] table.items) }
+    ensures { IfOk result (λ table. IsPieceTableOf [] table.items) }
 {
     Ok(vec![in alloc; None; MAX_VCPUS as usize]?)
 }
@@ -18,8 +18,8 @@ pub(crate) fn empty_table(alloc: Global) -> Result<Vec<Option<Piece>>, NoMemory>
 // Puts the pieces on a core into a table of none, by vCPU number.
 pub(crate) fn put_pieces(table: &mut Vec<Option<Piece>>, pieces: &[Piece], core: CoreNo)
     requires own { HaveOwnCores pieces.now }
-    requires none { IsTableOf [] table.old.items }
-    ensures { IsTableOf (pieces_at pieces.now core) table.new.items }
+    requires none { IsPieceTableOf [] table.old.items }
+    ensures { IsPieceTableOf (pieces_at pieces.now core) table.new.items }
 {
     for piece in pieces {
         if piece.core == core {
@@ -31,8 +31,8 @@ pub(crate) fn put_pieces(table: &mut Vec<Option<Piece>>, pieces: &[Piece], core:
 // Takes those of any core out again.
 pub(crate) fn take_pieces(table: &mut Vec<Option<Piece>>, pieces: &[Piece])
     requires size { length table.old.items ≡ MAX_VCPUS }
-    ensures { (core : ℕ) → IsTableOf (pieces_at pieces.now core) table.old.items
-        → IsTableOf [] table.new.items }
+    ensures { (core : ℕ) → IsPieceTableOf (pieces_at pieces.now core) table.old.items
+        → IsPieceTableOf [] table.new.items }
 {
     for piece in pieces {
         table[piece.vcpu.index()] = None;

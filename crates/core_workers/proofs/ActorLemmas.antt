@@ -52,7 +52,7 @@ module _ (a : ActorView) (b : StateView) (v w : View) (answer : CoreAnswer) (agr
   core_told = core_as a (actor_view a.course b) v w answer refl (core_stepped a.course a.state b v w answer agrees.course_kept same agrees.agrees now changes told)
 
 -- the controller's step
-pub lead_told : (k l : ControllerView) (v w : View) (answer : ControlAnswer) → controllers.AgreesWith k.course k.state v → controllers.AgreesWith l.course l.state w → l.course ≡ k.course
+pub lead_told : (k l : ControllerView) (v w : View) (answer : ControlAnswer) → controllers.ControlAgreesWith k.course k.state v → controllers.ControlAgreesWith l.course l.state w → l.course ≡ k.course
     → ChangesOnly v w controller → ControlTold (outline_of k.course) k.state.posted v answer w → Stepped lead_kind k v (lead_turn answer) l w
 lead_told k l v w answer was now same changes told = lead_as k l v w answer same
-    (lead_stepped k.course k.state l.state v w answer was (subst (λ (x : CourseView). controllers.AgreesWith x l.state w) same now) changes told)
+    (lead_stepped k.course k.state l.state v w answer was (subst (λ (x : CourseView). controllers.ControlAgreesWith x l.state w) same now) changes told)

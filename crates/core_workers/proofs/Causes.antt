@@ -26,7 +26,7 @@ use Rattle.plan_switch.specs.declared.state.ControlState.{ControlState}
 use Rattle.plan_switch.specs.declared.answer.ControlAnswer.{ControlAnswer}
 use Rattle.plan_switch.specs.declared.answer.ControlAnswer.TheVariants as control
 use Rattle.plan_switch.specs.Told.{ControlTold}
-use Rattle.crew_turns.specs.Going.{IsOn, IsQuiet, PartsGoOn}
+use Rattle.crew_turns.specs.Going.{GoesOnTo, IsQuiet, PartsGoOn}
 use Rattle.crew_turns.proofs.GoingLemmas.{actors_none, actors_step, on_more, on_none, parts_changed}
 use Rattle.core_workers.specs.Crews.{HasFinished}
 use Rattle.core_workers.specs.Waiting.{CoreWaits, LeadWaits}
@@ -83,7 +83,7 @@ low_of course c d tick p q finds = record {
 module _ (o : OutlineView) (c : ℕ) (v w : View) (changes : ChangesOnly v w c) where
   -- the core has entered its round, or needn't
   module _ (count : ℕ) (entered : Part) (enters : ComesToEnter (sees (part v c) count) entered) where
-    on_begun : IsOn (part v c) entered
+    on_begun : GoesOnTo (part v c) entered
     on_begun = on_more (part v c) (sees (part v c) count) entered (on_sees (part v c) count) (on_entered (sees (part v c) count) entered enters)
 
     begun_clock : entered.clock ≡ (part v c).clock
@@ -96,7 +96,7 @@ module _ (o : OutlineView) (c : ℕ) (v w : View) (changes : ChangesOnly v w c) 
     pub later : (s : Stint) → RunsSome o c entered (part w c) s → (part v c).clock < (part w c).clock
     later s runs = omega (arith, ap (λ (q : Part). q.clock) runs.becomes, runs.some, runs.begins.from, begun_clock)
 
-    on_run : (s : Stint) → RunsSome o c entered (part w c) s → IsOn (part v c) (part w c)
+    on_run : (s : Stint) → RunsSome o c entered (part w c) s → GoesOnTo (part v c) (part w c)
     on_run s runs = let heard = on_cores c o.lag s.end o.cores entered runs.heard runs.near in record {
       clock = omega (arith, later s runs);
       sights = λ e. absurd (omega (arith, later s runs, e));
@@ -105,11 +105,11 @@ module _ (o : OutlineView) (c : ℕ) (v w : View) (changes : ChangesOnly v w c) 
 
     -- it waits for another core
     module _ (d tick : ℕ) (low : HearsLow o c entered (part w c) d tick) where
-      pub on_heard : IsOn (part v c) low.heard
+      pub on_heard : GoesOnTo (part v c) low.heard
       on_heard = on_more (part v c) entered low.heard on_begun (on_cores c o.lag low.end d entered low.heard low.near)
 
-      on_low : IsOn (part v c) (part w c)
-      on_low = on_more (part v c) low.heard (part w c) on_heard (subst (IsOn low.heard) (sym low.becomes) (on_hears low.heard d tick))
+      on_low : GoesOnTo (part v c) (part w c)
+      on_low = on_more (part v c) low.heard (part w c) on_heard (subst (GoesOnTo low.heard) (sym low.becomes) (on_hears low.heard d tick))
 
       pub low_quiet : IsQuiet v w
       low_quiet = let hs = heard_same c o.lag low.end d entered low.heard low.near in
@@ -127,11 +127,11 @@ module _ (o : OutlineView) (c : ℕ) (v w : View) (changes : ChangesOnly v w c) 
   pub lacks_quiet : (tick : ℕ) → LacksEvent o c v w tick → IsQuiet v w
   lacks_quiet tick lacks = quiet_step v w c changes (ap (λ (q : Part). q.clock) lacks.becomes) (ap (λ (q : Part). q.floors) lacks.becomes)
 
-  goes_on : (rounds : ℕ) (answer : CoreAnswer) → CoreGoes o rounds c v answer w → IsOn (part v c) (part w c)
+  goes_on : (rounds : ℕ) (answer : CoreAnswer) → CoreGoes o rounds c v answer w → GoesOnTo (part v c) (part w c)
   goes_on rounds (Ran s) goes = on_run goes.0 goes.1 goes.2.enters s goes.3
-  goes_on rounds (Behind Controller tick) goes = subst (IsOn (part v c)) (sym goes.1.becomes) (on_sees (part v c) goes.1.count)
+  goes_on rounds (Behind Controller tick) goes = subst (GoesOnTo (part v c)) (sym goes.1.becomes) (on_sees (part v c) goes.1.count)
   goes_on rounds (Behind (Core d) tick) goes = on_low goes.0 goes.1 goes.2.enters d tick goes.3
-  goes_on rounds Finished goes = subst (λ (u : View). IsOn (part v c) (part u c)) (sym goes.1) (on_none (part v c))
+  goes_on rounds Finished goes = subst (λ (u : View). GoesOnTo (part v c) (part u c)) (sym goes.1) (on_none (part v c))
 
   pub goes_parts : (rounds : ℕ) (answer : CoreAnswer) → CoreGoes o rounds c v answer w → PartsGoOn v w
   goes_parts rounds answer goes = parts_changed v w c changes (goes_on rounds answer goes)
@@ -239,7 +239,7 @@ pub core_parts : (course : CourseView) (rounds c : ℕ) (v w : View) (answer : C
 core_parts course rounds c v w answer ok changes told = goes_parts (outline_of course) c v w changes rounds answer (told_goes course rounds c v w answer ok told)
 
 -- what the controller's step brings
-pub lead_stepped : (course : CourseView) (k l : ControlState) (v w : View) (answer : ControlAnswer) → controllers.AgreesWith course k v → controllers.AgreesWith course l w
+pub lead_stepped : (course : CourseView) (k l : ControlState) (v w : View) (answer : ControlAnswer) → controllers.ControlAgreesWith course k v → controllers.ControlAgreesWith course l w
     → ChangesOnly v w controller → ControlTold (outline_of course) k.posted v answer w → LeadStep course k.posted v answer l.posted w
 lead_stepped course k l v w (control.Posted count) was now changes told =
     let posts = told.2 in
@@ -273,14 +273,14 @@ lead_stepped course k l v w control.Finished was now changes told =
     (stays, subst (IsQuiet v) (sym told.1) (quiet_none v), stays ∙ told.0)
 
 -- the controller's part is some steps on after its step
-lead_on : (course : CourseView) (n : ℕ) (v w : View) (answer : ControlAnswer) → ControlTold (outline_of course) n v answer w → IsOn (part v controller) (part w controller)
+lead_on : (course : CourseView) (n : ℕ) (v w : View) (answer : ControlAnswer) → ControlTold (outline_of course) n v answer w → GoesOnTo (part v controller) (part w controller)
 lead_on course n v w (control.Posted count) told = let posts = told.2 in
     on_more (part v controller) posts.heard (part w controller) (on_cores controller _ _ _ (part v controller) posts.heard posts.near)
-    (subst (IsOn posts.heard) (sym posts.becomes) (on_posts posts.heard (controllers.floor_of (outline_of course) n)))
+    (subst (GoesOnTo posts.heard) (sym posts.becomes) (on_posts posts.heard (controllers.floor_of (outline_of course) n)))
 lead_on course n v w (control.Behind d tick) told = let low = told.1 in
     on_more (part v controller) low.heard (part w controller) (on_cores controller _ _ d (part v controller) low.heard low.near)
-    (subst (IsOn low.heard) (sym low.becomes) (on_hears low.heard d tick))
-lead_on course n v w control.Finished told = subst (λ (u : View). IsOn (part v controller) (part u controller)) (sym told.1) (on_none (part v controller))
+    (subst (GoesOnTo low.heard) (sym low.becomes) (on_hears low.heard d tick))
+lead_on course n v w control.Finished told = subst (λ (u : View). GoesOnTo (part v controller) (part u controller)) (sym told.1) (on_none (part v controller))
 
 pub lead_parts : (course : CourseView) (n : ℕ) (v w : View) (answer : ControlAnswer) → ChangesOnly v w controller → ControlTold (outline_of course) n v answer w → PartsGoOn v w
 lead_parts course n v w answer changes told = parts_changed v w controller changes (lead_on course n v w answer told)

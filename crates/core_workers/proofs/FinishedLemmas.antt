@@ -9,11 +9,11 @@ use Rattle.round_words.specs.Shown.{ViewInvariant}
 use Rattle.round_words.specs.Views.{part}
 use Rattle.dispatch_core.specs.Parts.{used_counts}
 use Rattle.dispatch_core.specs.States.{StateView}
-use Rattle.board_state.specs.Readings.{state_of}
-use Rattle.board_state.specs.RunViews.{IsFinished, IsRunView}
-use Rattle.board_state.proofs.FinishedLemmas.{counts_used, view_complete}
-use Rattle.board_state.proofs.RunViewLemmas.{view_kept}
-use Rattle.board_state.proofs.ViewLemmas.{IsAgreedBy, finished_view, run_view}
+use Rattle.run_state.specs.Readings.{state_of}
+use Rattle.run_state.specs.RunViews.{IsFinished, IsRunView}
+use Rattle.run_state.proofs.FinishedLemmas.{counts_used, view_complete}
+use Rattle.run_state.proofs.RunViewLemmas.{view_kept}
+use Rattle.run_state.proofs.ViewLemmas.{IsAgreedBy, finished_view, run_view}
 use Rattle.core_workers.specs.Views.{CrewView, actor_of}
 use Rattle.core_workers.specs.Crews.{AllAgree, HeldFinished, HoldsAll, IsCrew, IsWhole}
 

@@ -7,19 +7,19 @@ use Rattle.table_form.specs.Running.Courses.{CourseView, FitsRounds, IsCourse}
 use Rattle.round_words.specs.declared.view.View.{View}
 use Rattle.round_words.specs.Shown.{HoldsCore}
 use Rattle.round_words.specs.Views.{controller, holds}
-use Rattle.board_state.proofs.Lists.{of_map}
+use Rattle.run_state.proofs.Lists.{of_map}
 use Rattle.crew_turns.specs.declared.player.Player.{Player}
 use Rattle.dispatch_core.specs.States.{ActorView, AgreesWith, StateView}
 use Rattle.plan_switch.specs.Controllers as controllers
 use Rattle.plan_switch.specs.Controllers.{ControllerView}
-use Rattle.core_workers.specs.Crews.{AllAgree, IsFresh}
+use Rattle.core_workers.specs.Crews.{AllAgree, IsNewView}
 use Rattle.core_workers.specs.Views.{actor_of, crew_view, state_in}
-use Rattle.core_workers.specs.Inside.Making.{AreNew, IsNewActor}
+use Rattle.core_workers.specs.Inside.Making.{ArePlayersNew, IsNewActor}
 use Rattle.core_workers.specs.Inside.Players.{ArePlayers}
 
 -- one more core
-pub new_more : (course : CourseView) (rounds : ℕ) (keeps : List ℕ) (cores : List (Player ActorView)) (p : Player ActorView) → AreNew course rounds keeps cores
-    → IsNewActor course rounds (length cores) (slice_index keeps (length cores)) p.actor → AreNew course rounds keeps (cores ++ p ∷ [])
+pub new_more : (course : CourseView) (rounds : ℕ) (keeps : List ℕ) (cores : List (Player ActorView)) (p : Player ActorView) → ArePlayersNew course rounds keeps cores
+    → IsNewActor course rounds (length cores) (slice_index keeps (length cores)) p.actor → ArePlayersNew course rounds keeps (cores ++ p ∷ [])
 new_more course rounds keeps cores p are new i q at = elim (push_split cores i p q at) [
   | inl old ↦ are i q old
   | inr here ↦ subst (λ (x : Player ActorView). IsNewActor course rounds i (slice_index keeps i) x.actor) here.1
@@ -27,7 +27,7 @@ new_more course rounds keeps cores p are new i q at = elim (push_split cores i p
 ]
 
 module _ (course : CourseView) (rounds : ℕ) (keeps : List ℕ) (cores : List (Player ActorView)) (lead : Player ControllerView)
-    (are : AreNew course rounds keeps cores) (count : length cores ≡ course.cores) (lead_is : lead.actor.course ≡ course) where
+    (are : ArePlayersNew course rounds keeps cores) (count : length cores ≡ course.cores) (lead_is : lead.actor.course ≡ course) where
   pub players_made : IsCourse course → FitsRounds course rounds → ArePlayers course rounds cores lead
   players_made kept fits = record {
     course_kept = kept;
@@ -42,7 +42,7 @@ module _ (course : CourseView) (rounds : ℕ) (keeps : List ℕ) (cores : List (
   keeps_made c a at = let p = of_map state_in cores c a at in
       ap (λ (s : StateView). s.keep) p.2 ∙ (are c p.0 p.1).keep_is
 
-  pub agree_made : (v : View) → IsFresh course v → (holds v controller ≡ true → controllers.AgreesWith course lead.actor.state v) → AllAgree (crew_view course rounds cores lead) v
+  pub agree_made : (v : View) → IsNewView course v → (holds v controller ≡ true → controllers.ControlAgreesWith course lead.actor.state v) → AllAgree (crew_view course rounds cores lead) v
   agree_made v fresh control = record {
     cores = λ c a at has. (let p = of_map state_in cores c a at in
         let core : HoldsCore v c = (omega (arith, slice_get_within cores c p.0 p.1, count, fresh.started.cores_are), has) in

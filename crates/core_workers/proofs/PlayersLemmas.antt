@@ -9,7 +9,7 @@ use Rattle.tab_core.specs.declared.TheConstants.{ROUND}
 use Rattle.table_form.specs.Running.Courses.{CourseView, FitsRounds, IsCourse}
 use Rattle.round_words.specs.declared.view.View.{View}
 use Rattle.round_words.specs.Views.{holds, part}
-use Rattle.board_state.proofs.Lists.{in_map, of_map}
+use Rattle.run_state.proofs.Lists.{in_map, of_map}
 use Rattle.crew_turns.specs.declared.player.Player.{Player}
 use Rattle.crew_turns.specs.Troops as troops
 use Rattle.crew_turns.specs.Troops.{AreAgreed, AreHeld, AreSame, AreTroop}
@@ -19,7 +19,7 @@ use Rattle.plan_switch.specs.Controllers.{ControllerView}
 use Rattle.core_workers.specs.Actors.{core_kind, lead_kind}
 use Rattle.core_workers.specs.Crews.{AllAgree, HasFinished, HoldsAll, IsCrew, IsSameAt, IsSameCrew, IsWhole}
 use Rattle.core_workers.specs.Views.{CrewView, actor_of, crew_view, state_in}
-use Rattle.core_workers.specs.Waiting.{AreAtRest, CoreWaits, LeadWaits, LeastWaits}
+use Rattle.core_workers.specs.Waiting.{CoreWaits, IsCrewAtRest, LeadWaits, LeastCoreWaits}
 use Rattle.core_workers.specs.Inside.Players.{ArePlayers}
 
 module _ (course : CourseView) (rounds : ℕ) (cores : List (Player ActorView)) (lead : Player ControllerView) (are : ArePlayers course rounds cores lead) where
@@ -70,7 +70,7 @@ module _ (course : CourseView) (rounds : ℕ) (cores : List (Player ActorView)) 
         fits = subst (λ (r : ℕ). FitsRounds p.actor.course r) (sym is.rounds_is) (subst (λ (k : CourseView). FitsRounds k rounds) (sym is.course_is) are.fits);
         agrees = subst (λ (k : CourseView). AgreesWith k p.actor.state v) (sym is.course_is) (agree.cores i p.actor.state (shows i p at) has);
       });
-      control_agrees = λ has. subst (λ (k : CourseView). controllers.AgreesWith k lead.actor.state v) (sym are.lead_is) (agree.control has);
+      control_agrees = λ has. subst (λ (k : CourseView). controllers.ControlAgreesWith k lead.actor.state v) (sym are.lead_is) (agree.control has);
     }
 
     pub agree_again : AreAgreed core_kind lead_kind cores lead v → AllAgree crew v
@@ -78,7 +78,7 @@ module _ (course : CourseView) (rounds : ℕ) (cores : List (Player ActorView)) 
       cores = λ c a at has. (let p = at_actor c a at in
           subst (λ (s : StateView). AgreesWith course s v) (sym p.2)
           (subst (λ (k : CourseView). AgreesWith k p.0.actor.state v) (are.each c p.0 p.1).course_is (with_them.each c p.0 p.1 has).agrees));
-      control = λ has. subst (λ (k : CourseView). controllers.AgreesWith k lead.actor.state v) are.lead_is (with_them.control_agrees has);
+      control = λ has. subst (λ (k : CourseView). controllers.ControlAgreesWith k lead.actor.state v) are.lead_is (with_them.control_agrees has);
     }
 
     -- where the view holds all parts all of them agree
@@ -112,7 +112,7 @@ module _ (course : CourseView) (rounds : ℕ) (cores : List (Player ActorView)) 
         subst (λ (c : ℕ). CoreWaits course c v w) is.core
         (subst (λ (k : CourseView). CoreWaits k least.player.actor.state.core v w) is.course_is least.waits)
 
-    least_waits : troops.LeastWaits core_kind cores v w → LeastWaits course v w
+    least_waits : troops.LeastWaits core_kind cores v w → LeastCoreWaits course v w
     least_waits least =
         let here = clock_of least.number least.player least.at least.held in
         let many : w.cores ≡ length cores = (agree.cores least.number least.player.actor.state (shows least.number least.player least.at) least.held).stands.of_outline.cores_are ∙ sym are.count in record {
@@ -127,7 +127,7 @@ module _ (course : CourseView) (rounds : ℕ) (cores : List (Player ActorView)) 
           waits = waits_here least;
         }
 
-    pub at_rest : AreAtRest crew v w
+    pub at_rest : IsCrewAtRest crew v w
     at_rest = record {
       cores = elim rest.cores_rest [
         | inl ended ↦ inl (λ c a at has. let p = at_actor c a at in subst HasFinished (sym p.2) (ended c p.0 p.1 has))

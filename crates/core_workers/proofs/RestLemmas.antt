@@ -7,22 +7,22 @@ use Rattle.round_words.specs.Shown.{HoldsCore}
 use Rattle.round_words.specs.Views.{part}
 use Rattle.run_promises.proofs.ChoiceLemmas.{stint_bounds}
 use Rattle.core_workers.specs.Views.{CrewView}
-use Rattle.core_workers.specs.Crews.{AllAgree, CoresFinished, HasPosted, HeldFinished, HoldsAll, IsCrew, IsWhole}
-use Rattle.core_workers.specs.Waiting.{AreAtRest, AwaitsEvent, AwaitsOther, LeastWaits}
+use Rattle.core_workers.specs.Crews.{AllAgree, CoresFinished, HeldFinished, HoldsAll, IsAllPosted, IsCrew, IsWhole}
+use Rattle.core_workers.specs.Waiting.{AwaitsEvent, AwaitsOther, IsCrewAtRest, LeastCoreWaits}
 
-module _ (crew : CrewView) (v w : View) (is : IsCrew crew) (whole : IsWhole crew) (agree : AllAgree crew w) (all : HoldsAll crew w) (rest : AreAtRest crew v w) where
+module _ (crew : CrewView) (v w : View) (is : IsCrew crew) (whole : IsWhole crew) (agree : AllAgree crew w) (all : HoldsAll crew w) (rest : IsCrewAtRest crew v w) where
   holds_core : (d : ℕ) → d < crew.course.cores → HoldsCore w d
   holds_core d lt = (omega (arith, lt, (agree.control all.control).of_outline.cores_are), all.cores d lt)
 
   -- no core waits for another, which would be at a lower clock
-  near_all : (least : LeastWaits crew.course v w) → AwaitsOther crew.course least.core v w → ⊥
+  near_all : (least : LeastCoreWaits crew.course v w) → AwaitsOther crew.course least.core v w → ⊥
   near_all least other =
       let d = other.awaits in
       let end = (stint_bounds crew.course least.core (part w least.core).stints other.stint is.course_kept other.next.follows).2 in
       omega (arith, d.low, d.exact (all.cores d.core d.within), end, other.next.begins.from, least.least d.core (holds_core d.core d.within))
 
   -- no core waits for an event, for which the controller would wait for a core of lower clock
-  sees_all : (least : LeastWaits crew.course v w) → AwaitsEvent crew.course least.core v w → ⊥
+  sees_all : (least : LeastCoreWaits crew.course v w) → AwaitsEvent crew.course least.core v w → ⊥
   sees_all least awaits =
       let count : awaits.count ≡ crew.control.posted = awaits.exact all.control ∙ sym (agree.control all.control).posted in
       elim (rest.control all.control) [
@@ -38,7 +38,7 @@ module _ (crew : CrewView) (v w : View) (is : IsCrew crew) (whole : IsWhole crew
   ]
 
   -- once the cores are at the run's end the controller doesn't wait either
-  all_posted : HasPosted crew
+  all_posted : IsAllPosted crew
   all_posted = elim (rest.control all.control) [
     | inl posted ↦ posted
     | inr lead ↦ (let d = lead.awaits in

@@ -7,7 +7,7 @@ use Rattle.round_words.specs.Views.{all_new, controller, heard_of, just_started,
 use Rattle.round_words.proofs.StartLemmas.{all_are_new}
 use Rattle.dispatch_core.specs.Parts.{IsNewPart}
 use Rattle.plan_switch.specs.Controllers as controllers
-use Rattle.core_workers.specs.Crews.{HoldsAll, IsFresh}
+use Rattle.core_workers.specs.Crews.{HoldsAll, IsNewView}
 use Rattle.core_workers.specs.Views.{CrewView}
 
 there : (n : ℕ) (rest : List (Option Part)) (a : ℕ) → a < n → is_some (part_at (replicate n (Some new_part) ++ rest) a) ≡ true
@@ -28,11 +28,11 @@ new_is_new : (p : Part) → p ≡ new_part → IsNewPart p
 new_is_new p is = subst IsNewPart (sym is) (record { clock = refl; heard = none_heard 32; entries = refl; stints = refl })
 
 -- nothing has happened in it
-pub fresh : (course : CourseView) (v : View) → v ≡ just_started course.lag course.cores (length course.ticks) → IsFresh course v
-fresh course v is = subst (IsFresh course) (sym is) (record {
+pub fresh : (course : CourseView) (v : View) → v ≡ just_started course.lag course.cores (length course.ticks) → IsNewView course v
+fresh course v is = subst (IsNewView course) (sym is) (record {
   started = record { started = refl; lag_is = refl; cores_are = refl; events_are = refl };
   cores = λ c core. new_is_new (part (just_started course.lag course.cores (length course.ticks)) c) (all_are_new course.cores c);
-  control = λ has. subst controllers.IsNewPart (sym (all_are_new course.cores controller)) (record { heard = none_heard 32; floors = refl });
+  control = λ has. subst controllers.IsNewControlPart (sym (all_are_new course.cores controller)) (record { heard = none_heard 32; floors = refl });
 })
 
 -- it holds all parts
@@ -49,5 +49,5 @@ abbrev pub nobody : CourseView → CrewView
 nobody course = record { course = course; rounds = 0; control = record { posted = 0; known = [] }; actors = [] }
 
 -- a crew of nobody, of a board started with what the course tells
-pub fresh_as : (course : CourseView) (v : View) (lag cores events : ℕ) → lag ≡ course.lag → cores ≡ course.cores → events ≡ length course.ticks → v ≡ just_started lag cores events → IsFresh course v
+pub fresh_as : (course : CourseView) (v : View) (lag cores events : ℕ) → lag ≡ course.lag → cores ≡ course.cores → events ≡ length course.ticks → v ≡ just_started lag cores events → IsNewView course v
 fresh_as course v lag cores events a b c is = fresh course v (is ∙ (ap (λ (l : ℕ). just_started l cores events) a ∙ (ap (λ (n : ℕ). just_started course.lag n events) b ∙ ap (just_started course.lag course.cores) c)))

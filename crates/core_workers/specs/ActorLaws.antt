@@ -13,7 +13,7 @@ use Rattle.crew_turns.specs.Going.{IsQuiet, IsSameBoard, PartsGoOn}
 use Rattle.crew_turns.specs.Kinds.{IsLawful}
 use Rattle.crew_turns.proofs.GoingLemmas.{on_more}
 use Rattle.dispatch_core.specs.Parts.{IsTimely, used_counts}
-use Rattle.dispatch_core.specs.States.{ActorView, AgreesWith, FollowsPlans, IsSameCore, Stands, StateView}
+use Rattle.dispatch_core.specs.States.{ActorView, AgreesWith, AgreesWithoutPlan, FollowsPlans, IsSameCore, StateView}
 use Rattle.dispatch_core.specs.Told.{ComesNext}
 use Rattle.plan_switch.specs.Controllers as controllers
 use Rattle.plan_switch.specs.declared.state.ControlState.{ControlState}
@@ -37,7 +37,7 @@ started_on lag cores events v w board is = record { started = board.started ∙ 
 
 -- a core's state agrees, in what needs no plan, with each view of the board that holds the core's part as it
 -- was
-pub stands_part : (o : OutlineView) (a : StateView) (v w : View) → Stands o a v → IsSameBoard v w → holds w a.core ≡ true → part w a.core ≡ part v a.core → Stands o a w
+pub stands_part : (o : OutlineView) (a : StateView) (v w : View) → AgreesWithoutPlan o a v → IsSameBoard v w → holds w a.core ≡ true → part w a.core ≡ part v a.core → AgreesWithoutPlan o a w
 stands_part o a v w stands board has is = record {
   of_outline = started_on o.lag o.cores (length o.ticks) v w board stands.of_outline;
   core = (subst (λ (n : ℕ). a.core < n) (sym board.cores) stands.core.0, has);

@@ -39,7 +39,7 @@ core_kind = record {
 abbrev pub lead_kind : Kind ControllerView
 lead_kind = record {
   number = λ k. controller;
-  agrees = λ k v. controllers.AgreesWith k.course k.state v;
+  agrees = λ k v. controllers.ControlAgreesWith k.course k.state v;
   same = λ k l. l.course ≡ k.course;
   place = λ k. k.state.posted;
   end = λ k. length k.course.ticks;

@@ -28,13 +28,13 @@ abbrev pub IsWhole : CrewView → Type 0
 IsWhole crew = (c : ℕ) → c < crew.course.cores → (a : StateView) × (actor_of crew c ≡ Some a)
 
 -- the cores' actors whose parts the view holds agree with them
-abbrev pub CoresAgree : CrewView → View → Type 0
-CoresAgree crew v = (c : ℕ) (a : StateView) → actor_of crew c ≡ Some a → holds v c ≡ true → AgreesWith crew.course a v
+abbrev pub CrewCoresAgree : CrewView → View → Type 0
+CrewCoresAgree crew v = (c : ℕ) (a : StateView) → actor_of crew c ≡ Some a → holds v c ≡ true → AgreesWith crew.course a v
 
 -- all actors whose parts the view holds agree with them
 pub record AllAgree (crew : CrewView) (v : View) : Type 0 where
-  pub cores : CoresAgree crew v
-  pub control : holds v controller ≡ true → controllers.AgreesWith crew.course crew.control v
+  pub cores : CrewCoresAgree crew v
+  pub control : holds v controller ≡ true → controllers.ControlAgreesWith crew.course crew.control v
 
 -- the actor is the same, some steps on, or none
 abbrev pub IsSameAt : Option StateView → Option StateView → Type 0
@@ -59,8 +59,8 @@ abbrev pub HasFinished : StateView → Type 0
 HasFinished a = a.clock ≡ a.rounds * ROUND
 
 -- every event is posted
-abbrev pub HasPosted : CrewView → Type 0
-HasPosted crew = crew.control.posted ≡ length crew.course.ticks
+abbrev pub IsAllPosted : CrewView → Type 0
+IsAllPosted crew = crew.control.posted ≡ length crew.course.ticks
 
 -- the cores whose parts the view holds have finished
 abbrev pub CoresFinished : CrewView → View → Type 0
@@ -69,10 +69,10 @@ CoresFinished crew v = (c : ℕ) (a : StateView) → actor_of crew c ≡ Some a 
 -- the actors whose parts the view holds have finished
 pub record HeldFinished (crew : CrewView) (v : View) : Type 0 where
   pub cores : CoresFinished crew v
-  pub control : holds v controller ≡ true → HasPosted crew
+  pub control : holds v controller ≡ true → IsAllPosted crew
 
 -- the view was started for the course, and nothing has happened to the parts that it holds
-pub record IsFresh (course : CourseView) (v : View) : Type 0 where
+pub record IsNewView (course : CourseView) (v : View) : Type 0 where
   pub started : IsOfOutline (outline_of course) v
   pub cores : (c : ℕ) → HoldsCore v c → IsNewPart (part v c)
-  pub control : holds v controller ≡ true → controllers.IsNewPart (part v controller)
+  pub control : holds v controller ≡ true → controllers.IsNewControlPart (part v controller)

@@ -7,16 +7,16 @@ use Rattle.round_words.specs.declared.view.Part.{Part}
 use Rattle.round_words.specs.declared.view.View.{View}
 use Rattle.round_words.specs.Shown.{HoldsCore}
 use Rattle.round_words.specs.Views.{controller, holds, part, hears, sees}
-use Rattle.crew_turns.specs.Going.{IsOn}
+use Rattle.crew_turns.specs.Going.{GoesOnTo}
 use Rattle.dispatch_core.specs.Told.{ComesNext}
 use Rattle.core_workers.specs.Views.{CrewView}
-use Rattle.core_workers.specs.Crews.{CoresFinished, HasPosted}
+use Rattle.core_workers.specs.Crews.{CoresFinished, IsAllPosted}
 
 -- the last that core c did since v was to see a count, which leaves out an event of tick at most the core's
 -- clock less the lag
 pub record AwaitsEvent (course : CourseView) (c : ℕ) (v w : View) : Type 0 where
   pub before : Part
-  pub since : IsOn (part v c) before
+  pub since : GoesOnTo (part v c) before
   pub count : ℕ
   pub saw : part w c ≡ sees before count
   pub some : count < length course.ticks
@@ -26,7 +26,7 @@ pub record AwaitsEvent (course : CourseView) (c : ℕ) (v w : View) : Type 0 whe
 -- the last that actor a did since v was to hear another core's clock, which is below the tick less the lag
 pub record AwaitsCore (course : CourseView) (a tick : ℕ) (v w : View) : Type 0 where
   pub before : Part
-  pub since : IsOn (part v a) before
+  pub since : GoesOnTo (part v a) before
   pub core : ℕ
   pub within : core < course.cores
   pub other : core ≢ a
@@ -47,7 +47,7 @@ abbrev pub CoreWaits : CourseView → ℕ → View → View → Type 0
 CoreWaits course c v w = AwaitsEvent course c v w ⊎ AwaitsOther course c v w
 
 -- one of the cores that are held waits, and none of them has a lower clock
-pub record LeastWaits (course : CourseView) (v w : View) : Type 0 where
+pub record LeastCoreWaits (course : CourseView) (v w : View) : Type 0 where
   pub core : ℕ
   pub held : HoldsCore w core
   pub least : (d : ℕ) → HoldsCore w d → (part w core).clock ≤ (part w d).clock
@@ -60,6 +60,6 @@ pub record LeadWaits (course : CourseView) (n : ℕ) (v w : View) : Type 0 where
 
 -- The actors whose parts are held are at rest in w, after steps that began in v: the cores have finished or
 -- one of least clock waits, and the controller has posted all events or waits
-pub record AreAtRest (crew : CrewView) (v w : View) : Type 0 where
-  pub cores : CoresFinished crew w ⊎ LeastWaits crew.course v w
-  pub control : holds w controller ≡ true → HasPosted crew ⊎ LeadWaits crew.course crew.control.posted v w
+pub record IsCrewAtRest (crew : CrewView) (v w : View) : Type 0 where
+  pub cores : CoresFinished crew w ⊎ LeastCoreWaits crew.course v w
+  pub control : holds w controller ≡ true → IsAllPosted crew ⊎ LeadWaits crew.course crew.control.posted v w

@@ -4,10 +4,10 @@ ghost use Rattle.round_words.specs.declared.view.View.{View as ViewValue};
 ghost use Rattle.dispatch_core.specs.States.{StateView};
 ghost use Rattle.round_words.specs.Seats.{view_of, IsSeatOf};
 ghost use Rattle.crew_turns.specs.Going.{SameActors};
-ghost use Rattle.core_workers.specs.Crews.{AllAgree, HeldFinished, HoldsAll, IsCrew, IsFresh, IsSameCrew, IsWhole};
+ghost use Rattle.core_workers.specs.Crews.{AllAgree, HeldFinished, HoldsAll, IsCrew, IsNewView, IsSameCrew, IsWhole};
 ghost use Rattle.core_workers.specs.Views.{actor_of};
-ghost use Rattle.core_workers.specs.Waiting.{AreAtRest};
-ghost use Rattle.core_workers.specs.Inside.Making.{AreNew};
+ghost use Rattle.core_workers.specs.Waiting.{IsCrewAtRest};
+ghost use Rattle.core_workers.specs.Inside.Making.{ArePlayersNew};
 
 use crate::lead::Lead;
 use crate::member::Member;
@@ -56,7 +56,7 @@ impl<'a> Crew<'a> {
         requires fits { FitsRounds course.now rounds }
         requires count { length keep.now ≡ course.now.cores }
         ensures same { IfOk result (λ c. (c.course ≡ course.now) × (c.rounds ≡ rounds)) }
-        ensures agree { IfOk result (λ c. (v : ViewValue) → IsFresh course.now v → AllAgree c v) }
+        ensures agree { IfOk result (λ c. (v : ViewValue) → IsNewView course.now v → AllAgree c v) }
         ensures keeps { IfOk result (λ c. (core : ℕ) (a : StateView) → actor_of c core ≡ Some a
             → a.keep ≡ slice_index keep.now core) }
     {
@@ -105,7 +105,7 @@ fn make_cores<'a>(
 ) -> Result<Vec<Player<Member<'a>>>, NoMemory>
     requires fits { FitsRounds course.now rounds }
     requires count { length keep.now ≡ course.now.cores }
-    ensures { IfOk result (λ cores. AreNew course.now rounds keep.now cores.items
+    ensures { IfOk result (λ cores. ArePlayersNew course.now rounds keep.now cores.items
         × (length cores.items ≡ course.now.cores)) }
 {
     let owners = course_owners(alloc, course)?;
@@ -137,7 +137,7 @@ pub fn drive<G: Gate>(board: &RoundBoard, seat: &mut RoundSeat, crew: &mut Crew<
     ensures agree { AllAgree crew.new (view_of seat.new) }
     ensures same { IsSameCrew crew.old crew.new }
     ensures actors { SameActors (view_of seat.old) (view_of seat.new) }
-    ensures rests { AreAtRest crew.new (view_of seat.old) (view_of seat.new) }
+    ensures rests { IsCrewAtRest crew.new (view_of seat.old) (view_of seat.new) }
     ensures finished { HoldsAll crew.old (view_of seat.old) → HeldFinished crew.new (view_of seat.new) }
 {
     let site = Site {

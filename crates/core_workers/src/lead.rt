@@ -1,7 +1,7 @@
 ghost use Rattle.std.specs.Prelude.{◌≡◌, length, true};
 ghost use Rattle.round_words.specs.declared.view.View.{View as ViewValue};
 ghost use Rattle.round_words.specs.Views.{IsStarted, controller as the_controller, holds, part};
-ghost use Rattle.plan_switch.specs.Controllers.{AgreesWith, IsNewPart};
+ghost use Rattle.plan_switch.specs.Controllers.{ControlAgreesWith, IsNewControlPart};
 
 use crew_turns::{Stepper, Turn};
 use plan_switch::{ControlAnswer, Controller, control_step};
@@ -32,8 +32,8 @@ impl<'a> Lead<'a> {
         ensures course { result.course ≡ course.now }
         ensures agrees { (v : ViewValue)
             → IsStarted course.now.lag course.now.cores (length course.now.ticks) v
-            → holds v the_controller ≡ true → IsNewPart (part v the_controller)
-            → AgreesWith course.now result.state v }
+            → holds v the_controller ≡ true → IsNewControlPart (part v the_controller)
+            → ControlAgreesWith course.now result.state v }
     {
         Lead {
             controller: Controller::make(course),

@@ -6,7 +6,7 @@ use Rattle.round_words.specs.declared.view.Part.{Part}
 use Rattle.round_words.specs.declared.view.View.{View}
 use Rattle.round_words.specs.Changes.{ChangesOnly}
 use Rattle.round_words.specs.Views.{part}
-use Rattle.crew_turns.specs.Going.{IsOn, IsSameBoard, PartsGoOn, SameActors}
+use Rattle.crew_turns.specs.Going.{GoesOnTo, IsSameBoard, PartsGoOn, SameActors}
 
 pub actors_none : (v : View) → SameActors v v
 actors_none v = record { started = refl; lag = refl; cores = refl; events = refl; actors = λ a. refl }
@@ -20,10 +20,10 @@ actors_step v w c o = record { started = o.started; lag = o.lag; cores = o.cores
 pub board_step : (v w : View) (c : ℕ) → ChangesOnly v w c → IsSameBoard v w
 board_step v w c o = record { started = o.started; lag = o.lag; cores = o.cores; events = o.events }
 
-pub on_none : (p : Part) → IsOn p p
+pub on_none : (p : Part) → GoesOnTo p p
 on_none p = record { clock = omega arith; sights = λ _. omega arith; heard = λ d. omega arith }
 
-pub on_more : (p q r : Part) → IsOn p q → IsOn q r → IsOn p r
+pub on_more : (p q r : Part) → GoesOnTo p q → GoesOnTo q r → GoesOnTo p r
 on_more p q r on more = record {
   clock = omega (arith, on.clock, more.clock);
   sights = λ e. omega (arith, on.sights (omega (arith, on.clock, more.clock, e)), more.sights (omega (arith, on.clock, more.clock, e)));
@@ -36,7 +36,7 @@ parts_none v a = on_none (part v a)
 pub parts_more : (u v w : View) → PartsGoOn u v → PartsGoOn v w → PartsGoOn u w
 parts_more u v w on more a = on_more (part u a) (part v a) (part w a) (on a) (more a)
 
-pub parts_changed : (v w : View) (c : ℕ) → ChangesOnly v w c → IsOn (part v c) (part w c) → PartsGoOn v w
+pub parts_changed : (v w : View) (c : ℕ) → ChangesOnly v w c → GoesOnTo (part v c) (part w c) → PartsGoOn v w
 parts_changed v w c changes on a = dite (ℕ_discrete a c)
-    (λ e. subst (λ (i : ℕ). IsOn (part v i) (part w i)) (sym e) on)
-    (λ ne. subst (IsOn (part v a)) (sym (changes.parts a ne)) (on_none (part v a)))
+    (λ e. subst (λ (i : ℕ). GoesOnTo (part v i) (part w i)) (sym e) on)
+    (λ ne. subst (GoesOnTo (part v a)) (sym (changes.parts a ne)) (on_none (part v a)))

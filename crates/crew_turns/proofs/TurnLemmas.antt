@@ -14,7 +14,7 @@ use Rattle.crew_turns.specs.Going.{IsQuiet, PartsGoOn, SameActors}
 use Rattle.crew_turns.specs.Kinds.{IsLawful, Kind}
 use Rattle.crew_turns.specs.Troops.{AreAgreed, AreAtRest, AreSame, HaveEnded, LeastWaits}
 use Rattle.crew_turns.specs.Inside.Clocks.{AreTicks, IsClockOf, IsPosting, lead_left}
-use Rattle.crew_turns.specs.Inside.Turns.{AreCores, CoresGoOn, CoresTold, LeastStuck, TurnTold, left_of, or_stops, or_waits}
+use Rattle.crew_turns.specs.Inside.Turns.{AreCores, CoresGoOn, CoresTold, LeastStuck, TurnTold, left_to_do, or_stops, or_waits}
 use Rattle.crew_turns.proofs.BesideLemmas.{board_of}
 use Rattle.crew_turns.proofs.GoingLemmas.{actors_twice, board_step, parts_more}
 
@@ -124,7 +124,7 @@ module _ {C L : Type 0} (core : Kind C) (control : Kind L) (core_laws : IsLawful
 
   -- a turn in which the controller had nothing to do
   pub told_over : posting ≡ false → (p : Progress) → CoresTold core ticks v p cores' ticks' u
-      → TurnTold core control (left_of control ticks lead posting) v p cores' lead (left_of control ticks' lead posting) u
+      → TurnTold core control (left_to_do control ticks lead posting) v p cores' lead (left_to_do control ticks' lead posting) u
   told_over off Moved told = omega (arith, told)
   told_over off Waits told = (
     omega (arith, told.0),
@@ -192,14 +192,14 @@ module _ {C L : Type 0} (core : Kind C) (control : Kind L) (core_laws : IsLawful
       ended_rest out = record { cores_rest = inl (ended_then w quiet.actors out); lead_rests = lead_rests' }
 
       pub told_waits : (p : Progress) → CoresTold core ticks v p cores' ticks' u
-          → TurnTold core control (left_of control ticks lead posting) v (or_waits p) cores' lead' (left_of control ticks' lead' posting) w
+          → TurnTold core control (left_to_do control ticks lead posting) v (or_waits p) cores' lead' (left_to_do control ticks' lead' posting) w
       told_waits Moved told = omega (arith, told, same_left)
       told_waits Waits told = (omega (arith, told.0, same_left), stuck_rest told.1)
       told_waits Stopped told = (omega (arith, told.0, same_left), stuck_rest told.1)
       told_waits Done told = (omega (arith, told.0, same_left), ended_rest told.1)
 
       pub told_stops : (p : Progress) → CoresTold core ticks v p cores' ticks' u
-          → TurnTold core control (left_of control ticks lead posting) v (or_stops p) cores' lead' (left_of control ticks' lead' posting) w
+          → TurnTold core control (left_to_do control ticks lead posting) v (or_stops p) cores' lead' (left_to_do control ticks' lead' posting) w
       told_stops Moved told = omega (arith, told, same_left)
       told_stops Waits told = (omega (arith, told.0, same_left), stuck_rest told.1)
       told_stops Stopped told = (omega (arith, told.0, same_left), stuck_rest told.1)

@@ -7,14 +7,14 @@ use Rattle.round_words.specs.Views.{heard_of, holds, part}
 
 -- q is an actor's part p, maybe some steps on: its clock is later or it has seen no less at that clock, and
 -- it has heard each core no less often
-pub record IsOn (p q : Part) : Type 0 where
+pub record GoesOnTo (p q : Part) : Type 0 where
   pub clock : p.clock ≤ q.clock
   pub sights : q.clock ≡ p.clock → length p.sights ≤ length q.sights
   pub heard : (d : ℕ) → length (heard_of p d) ≤ length (heard_of q d)
 
 -- each actor's part, maybe some steps on
 abbrev pub PartsGoOn : View → View → Type 0
-PartsGoOn v w = (a : ℕ) → IsOn (part v a) (part w a)
+PartsGoOn v w = (a : ℕ) → GoesOnTo (part v a) (part w a)
 
 -- the views are of one board
 pub record IsSameBoard (v w : View) : Type 0 where

@@ -4,8 +4,8 @@ use Rattle.std.specs.Prelude.{◌≡◌, ◌≢◌, ◌⊎◌, ℕ, ◌<◌, ◌
 use Rattle.crew_turns.specs.declared.clocks.TheConstants.{OUT}
 
 -- no core of the first n has a lower clock than core c
-abbrev pub IsLeast : List ℕ → ℕ → ℕ → Type 0
-IsLeast ticks c n = (d : ℕ) → d < n → slice_index ticks c ≤ slice_index ticks d
+abbrev pub IsLeastOfFirst : List ℕ → ℕ → ℕ → Type 0
+IsLeastOfFirst ticks c n = (d : ℕ) → d < n → slice_index ticks c ≤ slice_index ticks d
 
 -- each core before core c is ahead of it
 abbrev pub IsFirst : List ℕ → ℕ → Type 0

@@ -2,7 +2,7 @@ ghost use Rattle.std.specs.Prelude.{◌<◌, ◌≤◌, length, slice_index};
 ghost use Rattle.round_words.specs.Seats.{view_of};
 ghost use Rattle.crew_turns.specs.Inside.Clocks.{AreTicks};
 ghost use Rattle.crew_turns.specs.Inside.Turns.{CoresAgree};
-ghost use Rattle.crew_turns.specs.Numbers.{IsFirst, IsLeast, IsLeastBut};
+ghost use Rattle.crew_turns.specs.Numbers.{IsFirst, IsLeastBut, IsLeastOfFirst};
 
 use crate::player::Player;
 use crate::stepper::CoreStepper;
@@ -39,7 +39,7 @@ pub struct Least {
 pub fn find_least(ticks: &[u32; 32], cores: u32) -> Least
     requires { (1 ≤ cores) × (cores ≤ 32) }
     ensures within { result.core < cores }
-    ensures least { IsLeast ticks.now result.core cores }
+    ensures least { IsLeastOfFirst ticks.now result.core cores }
     ensures first { IsFirst ticks.now result.core }
     ensures next { slice_index ticks.now result.core ≤ result.next }
     ensures others { IsLeastBut ticks.now result.core cores result.next }

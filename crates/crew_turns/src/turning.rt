@@ -3,7 +3,7 @@ ghost use Rattle.round_words.specs.Seats.{view_of, IsSeatOf};
 ghost use Rattle.crew_turns.specs.declared.clocks.TheConstants.{OUT as THE_OUT};
 ghost use Rattle.crew_turns.specs.Going.{PartsGoOn, SameActors};
 ghost use Rattle.crew_turns.specs.Inside.Clocks.{AreTicks, IsPosting};
-ghost use Rattle.crew_turns.specs.Inside.Turns.{AreCores, CoresAgree, CoresGoOn, CoresTold, GuessTold, RunTold, TurnTold, left_of, or_stops, or_waits};
+ghost use Rattle.crew_turns.specs.Inside.Turns.{AreCores, CoresAgree, CoresGoOn, CoresTold, GuessTold, RunTold, TurnTold, left_to_do, or_stops, or_waits};
 ghost use Rattle.crew_turns.specs.Troops.{AreAgreed, AreSame};
 
 use crate::clocks::{OUT, find_least};
@@ -60,8 +60,8 @@ pub(crate) fn turn<C: CoreStepper + Drop, L: Stepper + Drop, G: Gate>(
     ensures same { AreSame C.kind L.kind cores.old lead.old cores.new lead.new }
     ensures actors { SameActors (view_of seat.old) (view_of seat.new) }
     ensures parts { PartsGoOn (view_of seat.old) (view_of seat.new) }
-    ensures told { TurnTold C.kind L.kind (left_of L.kind roster.old.ticks lead.old roster.old.posting) (view_of seat.old) result
-        cores.new lead.new (left_of L.kind roster.new.ticks lead.new roster.new.posting) (view_of seat.new) }
+    ensures told { TurnTold C.kind L.kind (left_to_do L.kind roster.old.ticks lead.old roster.old.posting) (view_of seat.old) result
+        cores.new lead.new (left_to_do L.kind roster.new.ticks lead.new roster.new.posting) (view_of seat.new) }
 {
     let progress = turn_cores(site, seat, cores, roster);
     if !roster.posting {

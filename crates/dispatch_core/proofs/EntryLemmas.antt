@@ -7,7 +7,7 @@ use Rattle.tab_core.specs.declared.TheConstants.{ROUND}
 use Rattle.tab_core.specs.declared.entry.Entry.{Entry}
 use Rattle.round_words.specs.declared.view.Part.{Part}
 use Rattle.round_words.specs.Rule.{IsCorePart}
-use Rattle.round_words.specs.Views.{entry, enters, last_of}
+use Rattle.round_words.specs.Views.{entry, with_entry, last_of}
 use Rattle.dispatch_core.specs.Parts.{used_counts}
 use Rattle.dispatch_core.specs.Told.{MakesEntry}
 
@@ -36,7 +36,7 @@ used_push (x ∷ xs) e = ap (λ (us : List ℕ). x.used ∷ us) (used_push xs e)
 
 -- what a core decides at the start of a round that it hasn't entered
 pub makes_entry : (p q : Part) (count : ℕ) (won : Bool) → IsCorePart p → length p.entries * ROUND ≡ p.clock
-    → q ≡ enters p (entry (p.clock / ROUND) count (last_of p.sights) won) → (won ≡ true → count ≡ last_of p.sights)
+    → q ≡ with_entry p (entry (p.clock / ROUND) count (last_of p.sights) won) → (won ≡ true → count ≡ last_of p.sights)
     → MakesEntry p q
 makes_entry p q count won own due is told = record {
   due = omega (arith, due);

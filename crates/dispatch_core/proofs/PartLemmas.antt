@@ -8,7 +8,7 @@ use Rattle.tab_core.specs.declared.entry.Entry.{Entry}
 use Rattle.tab_core.specs.declared.stint.Stint.{Stint}
 use Rattle.table_form.specs.Running.Outlines.{OutlineView}
 use Rattle.round_words.specs.declared.view.Part.{Part}
-use Rattle.round_words.specs.Views.{enters, last_of, runs}
+use Rattle.round_words.specs.Views.{last_of, with_entry, with_stint}
 use Rattle.round_words.proofs.ListLemmas.{at_get}
 use Rattle.dispatch_core.specs.Parts.{HasEvents, HasSeen, IsTimely}
 use Rattle.dispatch_core.specs.Told.{BeginsNext, ComesToEnter, MakesEntry}
@@ -99,7 +99,7 @@ entered_seen o count p q seen enters = let same = entered_same p q enters in rec
 
 -- the core ran its next stint
 pub ran_timely : (o : OutlineView) (rounds count : ℕ) (p : Part) (s : Stint) → IsTimely o rounds p → p.clock < rounds * ROUND
-    → HasSeen o count p → BeginsNext p s → s.end ≤ (s.from / ROUND + 1) * ROUND → IsTimely o rounds (runs p s)
+    → HasSeen o count p → BeginsNext p s → s.end ≤ (s.from / ROUND + 1) * ROUND → IsTimely o rounds (with_stint p s)
 ran_timely o rounds count p s kept less sight next in_round =
     let saw : s.seen ≡ count = next.seen ∙ sight.last in record {
       in_run = omega (arith, next.from, in_round, less);

@@ -18,7 +18,7 @@ use Rattle.dispatch_core.specs.declared.log.CoreLog.{CoreLog}
 use Rattle.dispatch_core.specs.Accounts.{IsAccountOf}
 use Rattle.dispatch_core.specs.Inside.Logs.{IsNewLog, log_view}
 use Rattle.dispatch_core.specs.Parts.{HasSeen, IsNewPart, IsOfOutline, IsPartOf, IsTimely, used_counts}
-use Rattle.dispatch_core.specs.States.{AgreesWith, FollowsPlans, Stands, StateView}
+use Rattle.dispatch_core.specs.States.{AgreesWith, AgreesWithoutPlan, FollowsPlans, StateView}
 use Rattle.dispatch_core.specs.Told.{ComesToEnter}
 use Rattle.dispatch_core.proofs.PartLemmas.{SameRun, entered_same, entered_timely, timely_same}
 
@@ -46,7 +46,7 @@ none_taken (suc n) (s ∷ ss) is = absurd cc
 
 -- a new state agrees with a part to which nothing has happened, in what needs no plan
 pub stands_new : (o : OutlineView) (log : CoreLog) (v : View) → IsNewLog log → IsOfOutline o v → HoldsCore v log.core
-    → IsNewPart (part v log.core) → Stands o (log_view log) v
+    → IsNewPart (part v log.core) → AgreesWithoutPlan o (log_view log) v
 stands_new o log v new of core fresh = record {
   of_outline = of;
   core = core;
@@ -73,8 +73,8 @@ plans_new course log p new stints = record {
 }
 
 -- other parts and sights don't matter, and what was heard only to the known clocks
-pub stands_same : (o : OutlineView) (s : StateView) (v w : View) (known : List ℕ) → Stands o s v → ChangesOnly v w s.core
-    → SameRun (part v s.core) (part w s.core) → KnowsClocks known (part w s.core) → Stands o (record s { known = known }) w
+pub stands_same : (o : OutlineView) (s : StateView) (v w : View) (known : List ℕ) → AgreesWithoutPlan o s v → ChangesOnly v w s.core
+    → SameRun (part v s.core) (part w s.core) → KnowsClocks known (part w s.core) → AgreesWithoutPlan o (record s { known = known }) w
 stands_same o s v w known stands others same knows = record {
   of_outline = started_still o.lag o.cores (length o.ticks) v w s.core others stands.of_outline;
   core = core_still v w s.core s.core others stands.core;
@@ -100,11 +100,11 @@ plans_same course s t p q core last account stints follows = record {
 }
 
 -- the core entered its clock's round
-pub stands_entered : (o : OutlineView) (s : StateView) (v w : View) (used : List ℕ) (count : ℕ) → Stands o s v
+pub stands_entered : (o : OutlineView) (s : StateView) (v w : View) (used : List ℕ) (count : ℕ) → AgreesWithoutPlan o s v
     → s.clock < s.rounds * ROUND → ChangesOnly v w s.core → HasSeen o count (part v s.core)
     → All (λ (e : Entry). (e.seen ≤ count) × (e.used ≤ count)) (part v s.core).entries
     → ComesToEnter (part v s.core) (part w s.core) → used ≡ used_counts (part w s.core).entries
-    → Stands o (record s { used = used }) w
+    → AgreesWithoutPlan o (record s { used = used }) w
 stands_entered o s v w used count stands less others seen entries enters is =
     let p : Part = part v s.core in
     let q : Part = part w s.core in

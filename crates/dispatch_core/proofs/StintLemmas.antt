@@ -13,7 +13,7 @@ use Rattle.round_words.specs.declared.view.Part.{Part}
 use Rattle.table_form.specs.Running.Outlines.{OutlineView}
 use Rattle.round_words.specs.declared.view.View.{View}
 use Rattle.round_words.specs.Changes.{ChangesOnly}
-use Rattle.round_words.specs.Views.{last_of, part, runs}
+use Rattle.round_words.specs.Views.{last_of, part, with_stint}
 use Rattle.round_words.proofs.ChangesLemmas.{core_still, started_still}
 use Rattle.round_words.proofs.HearingLemmas.{SamePart}
 use Rattle.run_promises.proofs.ChoiceLemmas.{last_more}
@@ -21,7 +21,7 @@ use Rattle.dispatch_core.specs.declared.account.CoreAccount.{CoreAccount}
 use Rattle.dispatch_core.specs.Accounts.{IsAccountOf, IsWithin, idle_ticks, length_of, shared_ticks, slot_ticks}
 use Rattle.dispatch_core.specs.Inside.Adding.{Adds}
 use Rattle.dispatch_core.specs.Parts.{AreDispatched, HasSeen, used_counts}
-use Rattle.dispatch_core.specs.States.{FollowsPlans, Stands, StateView}
+use Rattle.dispatch_core.specs.States.{AgreesWithoutPlan, FollowsPlans, StateView}
 use Rattle.dispatch_core.specs.Told.{BeginsNext}
 use Rattle.dispatch_core.proofs.EntryLemmas.{used_at}
 use Rattle.dispatch_core.proofs.PartLemmas.{ran_timely}
@@ -94,7 +94,7 @@ dispatched_more course c ss s old follows k x h = elim (push_split ss k s x h) [
 pub plans_ran : (course : CourseView) (s t : StateView) (p : Part) (stint : Stint) (shared : Bool) → FollowsPlans course s p
     → IsDispatch course s.core p.stints stint → shared ≡ is_shared course s.core stint → t.core ≡ s.core
     → t.last ≡ last_after course s.core s.last stint → Adds s.account t.account stint shared
-    → FollowsPlans course t (runs p stint)
+    → FollowsPlans course t (with_stint p stint)
 plans_ran course s t p stint shared follows next shared_is core last adds = rw core (record {
   dispatched = dispatched_more course s.core p.stints stint follows.dispatched next;
   last = last ∙ (ap (λ (o : Option ℕ). last_after course s.core o stint) follows.last ∙ sym (last_more course s.core p.stints stint));
@@ -120,16 +120,16 @@ kept_stints keep ss s = elim (cases_lt (length (take keep ss)) keep) [
 ]
 
 -- in what needs no plan, once the core ran its next stint
-pub stands_ran : (o : OutlineView) (s t : StateView) (v w : View) (stint : Stint) (shared : Bool) (count : ℕ) → Stands o s v
+pub stands_ran : (o : OutlineView) (s t : StateView) (v w : View) (stint : Stint) (shared : Bool) (count : ℕ) → AgreesWithoutPlan o s v
     → s.clock < s.rounds * ROUND → HasSeen o count (part v s.core) → BeginsNext (part v s.core) stint
     → stint.from < stint.end → stint.end ≤ (stint.from / ROUND + 1) * ROUND → ChangesOnly v w s.core
-    → part w s.core ≡ runs (part v s.core) stint → t.core ≡ s.core → t.rounds ≡ s.rounds → t.keep ≡ s.keep → t.clock ≡ stint.end
+    → part w s.core ≡ with_stint (part v s.core) stint → t.core ≡ s.core → t.rounds ≡ s.rounds → t.keep ≡ s.keep → t.clock ≡ stint.end
     → t.used ≡ s.used → t.stints ≡ (if nat_lt (length s.stints) s.keep then s.stints ++ stint ∷ [] else s.stints)
-    → Adds s.account t.account stint shared → t.known ≡ s.known → Stands o t w
+    → Adds s.account t.account stint shared → t.known ≡ s.known → AgreesWithoutPlan o t w
 stands_ran o s t v w stint shared count stands less seen begins some in_round others is core rounds keep clock used stints adds known =
     let p : Part = part v s.core in
     let from : stint.from ≡ s.clock = begins.from ∙ sym stands.clock in
-    let becomes : part w t.core ≡ runs p stint = ap (part w) core ∙ is in record {
+    let becomes : part w t.core ≡ with_stint p stint = ap (part w) core ∙ is in record {
       of_outline = started_still o.lag o.cores (length o.ticks) v w s.core others stands.of_outline;
       core = rw core (core_still v w s.core s.core others stands.core);
       timely = rw (rounds, becomes) (ran_timely o s.rounds count p stint stands.timely (let c = stands.clock in omega (arith, c, less)) seen begins in_round);

@@ -41,7 +41,7 @@ abbrev pub actor_view : CourseView → StateView → ActorView
 actor_view course state = record { course = course; state = state }
 
 -- The state agrees with its core's part of the view, which the view holds, in all that needs no plan.
-pub record Stands (o : OutlineView) (s : StateView) (v : View) : Type 0 where
+pub record AgreesWithoutPlan (o : OutlineView) (s : StateView) (v : View) : Type 0 where
   pub of_outline : IsOfOutline o v
   pub core : HoldsCore v s.core
   pub timely : IsTimely o s.rounds (part v s.core)
@@ -60,7 +60,7 @@ pub record FollowsPlans (course : CourseView) (s : StateView) (p : Part) : Type 
 
 -- the state, of a run of the course, agrees with its core's part of the view
 pub record AgreesWith (course : CourseView) (s : StateView) (v : View) : Type 0 where
-  pub stands : Stands (outline_of course) s v
+  pub stands : AgreesWithoutPlan (outline_of course) s v
   pub plans : FollowsPlans course s (part v s.core)
 
 -- the state of the same core, some steps on

@@ -10,7 +10,7 @@ use Rattle.table_form.specs.Running.Courses.{CourseView, outline_of}
 use Rattle.table_form.specs.Running.Outlines.{OutlineView}
 use Rattle.round_words.specs.declared.view.Part.{Part}
 use Rattle.round_words.specs.declared.view.View.{View}
-use Rattle.round_words.specs.Views.{holds, part, sees, hears, enters, runs, last_of}
+use Rattle.round_words.specs.Views.{holds, part, sees, hears, with_entry, with_stint, last_of}
 use Rattle.round_words.specs.Hearing.{HearsCores}
 use Rattle.round_words.specs.Shown.{IsSight}
 use Rattle.dispatch_core.specs.declared.answer.Begun.{Begun}
@@ -38,7 +38,7 @@ pub record MakesEntry (p q : Part) : Type 0 where
   pub start : p.clock ≡ round_at p * ROUND
   pub entry : Entry
   pub is_entry : IsEntry p entry
-  pub becomes : q ≡ enters p entry
+  pub becomes : q ≡ with_entry p entry
 
 -- the core's part has the entry of its clock's round, or gets it now
 abbrev pub ComesToEnter : Part → Part → Type 0
@@ -94,7 +94,7 @@ pub record RunsStint (course : CourseView) (c : ℕ) (p q : Part) (s : Stint) : 
   pub next : ComesNext course c p s
   pub heard : Part
   pub near : HearsCores c course.lag s.end course.cores p heard
-  pub becomes : q ≡ runs heard s
+  pub becomes : q ≡ with_stint heard s
 
 -- what a core's step did to the view v, of which w came
 abbrev pub CoreTold : CourseView → ℕ → ℕ → View → CoreAnswer → View → Type 0
@@ -132,7 +132,7 @@ pub record RunsSome (o : OutlineView) (c : ℕ) (p q : Part) (s : Stint) : Type 
   pub some : s.from < s.end
   pub heard : Part
   pub near : HearsCores c o.lag s.end o.cores p heard
-  pub becomes : q ≡ runs heard s
+  pub becomes : q ≡ with_stint heard s
 
 -- whatever the plan: the core hears the others up to core d, whose clock is the tick, which is too low for some end
 pub record HearsLow (o : OutlineView) (c : ℕ) (p q : Part) (d tick : ℕ) : Type 0 where

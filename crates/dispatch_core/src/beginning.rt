@@ -9,7 +9,7 @@ ghost use Rattle.round_words.specs.Seats.{view_of, IsSeatOf};
 ghost use Rattle.round_words.specs.Views.{part};
 ghost use Rattle.dispatch_core.specs.Inside.Logs.{IsLog, log_view};
 ghost use Rattle.dispatch_core.specs.Parts.{HasEvents, used_counts};
-ghost use Rattle.dispatch_core.specs.States.{FollowsPlans, IsSameCore, Stands};
+ghost use Rattle.dispatch_core.specs.States.{AgreesWithoutPlan, FollowsPlans, IsSameCore};
 ghost use Rattle.dispatch_core.specs.Told.{BegunTold, ComesToEnter};
 
 use crate::answer::Begun;
@@ -77,10 +77,10 @@ pub(crate) fn begin(
 ) -> Begun
     requires board { IsSeatOf board.now seat.old }
     requires log { IsLog log.old }
-    requires stands { Stands outline.now (log_view log.old) (view_of seat.old) }
+    requires stands { AgreesWithoutPlan outline.now (log_view log.old) (view_of seat.old) }
     ensures board { IsSeatOf board.now seat.new }
     ensures log { IsLog log.new }
-    ensures stands { Stands outline.now (log_view log.new) (view_of seat.new) }
+    ensures stands { AgreesWithoutPlan outline.now (log_view log.new) (view_of seat.new) }
     ensures same { IsSameCore (log_view log.old) (log_view log.new) }
     ensures changes { ChangesOnly (view_of seat.old) (view_of seat.new) log.old.core }
     ensures told { BegunTold outline.now log.old.rounds log.old.core (view_of seat.old) result (log_view log.new)

@@ -4,7 +4,7 @@ ghost use Rattle.round_words.specs.Hearing.{HasHeardTo};
 ghost use Rattle.round_words.specs.Shown.{HoldsCore};
 ghost use Rattle.round_words.specs.Changes.{ChangesOnly};
 ghost use Rattle.round_words.specs.Seats.{view_of, IsSeatOf};
-ghost use Rattle.round_words.specs.Views.{part, runs};
+ghost use Rattle.round_words.specs.Views.{part, with_stint};
 ghost use Rattle.dispatch_core.specs.Inside.Ending.{BySpan, ByTable, EndsStep, IsToEnd};
 ghost use Rattle.dispatch_core.specs.Told.{BeginsNext};
 
@@ -181,7 +181,7 @@ fn advance(board: &RoundBoard, seat: &mut RoundSeat, core: u32, stint: &Stint)
     requires heard { HasHeardTo (view_of seat.old) core (view_of seat.old).cores stint.now.end }
     ensures board { IsSeatOf board.now seat.new }
     ensures changes { ChangesOnly (view_of seat.old) (view_of seat.new) core }
-    ensures becomes { part (view_of seat.new) core ≡ runs (part (view_of seat.old) core) stint.now }
+    ensures becomes { part (view_of seat.new) core ≡ with_stint (part (view_of seat.old) core) stint.now }
 {
     board.advance(seat, CoreNo(core), stint.end, stint.ran);
 }

@@ -6,7 +6,7 @@ ghost use Rattle.round_words.specs.Shown.{HoldsCore};
 ghost use Rattle.round_words.specs.Views.{part};
 ghost use Rattle.dispatch_core.specs.Inside.Logs.{IsLog, IsNewLog};
 ghost use Rattle.dispatch_core.specs.Parts.{IsNewPart, IsOfOutline};
-ghost use Rattle.dispatch_core.specs.States.{AgreesWith, Stands};
+ghost use Rattle.dispatch_core.specs.States.{AgreesWith, AgreesWithoutPlan};
 
 use crate::account::CoreAccount;
 use crate::log::CoreLog;
@@ -55,7 +55,7 @@ impl CoreState {
         ensures same { IfOk result (λ s. (s.core ≡ core) × (s.rounds ≡ rounds) × (s.keep ≡ keep)) }
         ensures stands { IfOk result (λ s. (v : ViewValue) → IsOfOutline outline.now v → HoldsCore v core
             → IsNewPart (part v core)
-            → Stands outline.now s v) }
+            → AgreesWithoutPlan outline.now s v) }
         ensures agrees { IfOk result (λ s. (course : CourseView) (v : ViewValue) → outline_of course ≡ outline.now
             → IsOfOutline (outline_of course) v → HoldsCore v core
             → IsNewPart (part v core)

@@ -7,7 +7,7 @@ use Rattle.tab_core.specs.declared.TheConstants.{ROUND}
 use Rattle.tab_core.specs.declared.piece.Piece.{Piece}
 use Rattle.table_form.specs.Planning.EdfRow.{edf_cells, owner_of}
 use Rattle.table_form.specs.Planning.Jobs.{Job, job_of, subtask_of, jobs_of}
-use Rattle.edf_table.specs.Inside.Progress.{IsCalm, AreCalm, GoesTo, IsCounted, MetBefore, IsMostUrgent, IsDueFirst, ServedBelow, cell, window_no, is_ready, due_at}
+use Rattle.edf_table.specs.Inside.Progress.{IsCalm, AreCalm, GoesTo, AreJobsCounted, MetBefore, IsMostUrgent, IsDueFirst, ServedBelow, cell, window_no, is_ready, due_at}
 use Rattle.table_form.specs.Planning.Windows.{DistinctVcpus}
 use Rattle.edf_table.proofs.Cells.{edf_cells-suc}
 use Rattle.edf_table.proofs.Steps.{counted_idle, counted_run, idle_cell_any, met_more_any, one_more}
@@ -84,7 +84,7 @@ served_at ps gs tick until x served gt lt i d i-in k at = served i d i-in k (ome
 
 -- what was met in a calm stretch stays so from tick to tick
 met_along : (ps : List Piece) (gs : List ℕ) (tick until x : ℕ) → ServedUntil ps gs tick until
-    → tick ≤ x → x < until → IsCounted ps gs x → MetBefore (jobs_of ps) (tick + 1)
+    → tick ≤ x → x < until → AreJobsCounted ps gs x → MetBefore (jobs_of ps) (tick + 1)
     → MetBefore (jobs_of ps) x →
     MetBefore (jobs_of ps) (x + 1)
 met_along ps gs tick until x served le lt counted start met = elim (cases_eq tick x) [
@@ -149,7 +149,7 @@ urgent_until ps gs tick until i calm urgent due j d j-in k gt lt =
     ]
 
 -- a ready piece is due later, where all that is due by now is met
-pub ready_due_later : (ps : List Piece) (gs : List ℕ) (tick i : ℕ) (d : Piece) → IsCounted ps gs tick
+pub ready_due_later : (ps : List Piece) (gs : List ℕ) (tick i : ℕ) (d : Piece) → AreJobsCounted ps gs tick
     → MetBefore (jobs_of ps) (tick + 1) → tick < ROUND → i < length ps
     → is_ready (get_or ps i d) (get_or gs i 0) tick ≡ true → tick < due_at (get_or ps i d) tick
 ready_due_later ps gs tick i d counted met lt i-in ready =
@@ -237,7 +237,7 @@ still_urgent ps gs tick until i n enough calm lt urgent lacks = record {
 -- without its cost
 pub record BeforeTurn (ps : List Piece) (gs : List ℕ) (tick until : ℕ) : Type 0 where
   pub apart : DistinctVcpus ps
-  pub counted : IsCounted ps gs tick
+  pub counted : AreJobsCounted ps gs tick
   pub met : MetBefore (jobs_of ps) (tick + 1)
   pub in_round : until ≤ ROUND
   pub calm : AreCalm ps (length ps) tick until
@@ -261,7 +261,7 @@ served_more ps gs tick until i n in_range served j d j-in k gt lt = elim (cases_
 pub run_along : (ps : List Piece) (gs : List ℕ) (tick until i n : ℕ) → BeforeTurn ps gs tick until
     → IsMostUrgent ps gs tick (length ps) i → tick + n ≤ until
     → ((m : ℕ) → m < n → LacksMore ps gs tick i m) →
-    IsCounted ps (more_given gs i n) (tick + n) × MetBefore (jobs_of ps) (tick + n)
+    AreJobsCounted ps (more_given gs i n) (tick + n) × MetBefore (jobs_of ps) (tick + n)
 run_along ps gs tick until i zero now urgent le lacks =
     rw (add-zero tick) (rw (more-zero gs i) (now.counted, met_less (jobs_of ps) tick now.met))
 run_along ps gs tick until i (suc n) now urgent le lacks =
@@ -276,8 +276,8 @@ run_along ps gs tick until i (suc n) now urgent le lacks =
     (omega (arith, now.in_round)) here in
     let e : tick + n + 1 ≡ tick + suc n = omega arith in
     let given = more-suc gs i n (omega (arith, now.counted.enough, urgent.in_range)) in (
-      subst (λ hs. IsCounted ps hs (tick + suc n)) given
-          (subst (IsCounted ps (one_more (more_given gs i n) i)) e after),
+      subst (λ hs. AreJobsCounted ps hs (tick + suc n)) given
+          (subst (AreJobsCounted ps (one_more (more_given gs i n) i)) e after),
       subst (MetBefore (jobs_of ps)) e met,
     )
 
@@ -302,7 +302,7 @@ run_goes ps gs tick until i n d now urgent le lacks x x-ge x-lt =
 
 -- a tick of the stretch is idle where no piece was ready at its begin
 idle_at : (ps : List Piece) (gs : List ℕ) (tick until x : ℕ) → BeforeTurn ps gs tick until
-    → NoneReady ps gs tick → tick ≤ x → x < until → IsCounted ps gs x
+    → NoneReady ps gs tick → tick ≤ x → x < until → AreJobsCounted ps gs x
     → MetBefore (jobs_of ps) (x + 1) → cell (jobs_of ps) x ≡ None
 idle_at ps gs tick until x now unready ge lt counted met =
     idle_cell_any ps gs x counted met (omega (arith, now.in_round))
@@ -312,7 +312,7 @@ idle_at ps gs tick until x now unready ge lt counted met =
 -- after n idle ticks
 pub idle_along : (ps : List Piece) (gs : List ℕ) (tick until n : ℕ) → BeforeTurn ps gs tick until
     → NoneReady ps gs tick → tick + n ≤ until
-    → IsCounted ps gs (tick + n) × MetBefore (jobs_of ps) (tick + n)
+    → AreJobsCounted ps gs (tick + n) × MetBefore (jobs_of ps) (tick + n)
 idle_along ps gs tick until zero now unready le =
     rw (add-zero tick) (now.counted, met_less (jobs_of ps) tick now.met)
 idle_along ps gs tick until (suc n) now unready le =
@@ -323,7 +323,7 @@ idle_along ps gs tick until (suc n) now unready le =
     (idle_at ps gs tick until (tick + n) now unready (omega arith)
     (omega arith) before.0 met) in
     let e : tick + n + 1 ≡ tick + suc n = omega arith in
-    (subst (IsCounted ps gs) e after, subst (MetBefore (jobs_of ps)) e met)
+    (subst (AreJobsCounted ps gs) e after, subst (MetBefore (jobs_of ps)) e met)
 
 -- all ticks of an idle turn are idle: what `run_turn` says without an owner
 pub idle_goes : (ps : List Piece) (gs : List ℕ) (tick until : ℕ) → BeforeTurn ps gs tick until

@@ -9,7 +9,7 @@ use Rattle.tab_core.specs.declared.piece.Piece.{Piece}
 use Rattle.tab_core.proofs.Periods.{period_facts}
 use Rattle.table_form.specs.Planning.Jobs.{Job, Subtask, job_of, subtask_of, first_jobs, jobs_of}
 use Rattle.table_form.specs.Planning.Demand.{demand_in, is_inside, Fits}
-use Rattle.edf_table.specs.Load.{AreUnsplit, IsUnsplit, load}
+use Rattle.edf_table.specs.Load.{AreUnsplit, IsUnsplit, load_of_pieces}
 use Rattle.edf_table.proofs.Pieces.{first_jobs-suc, first_jobs-zero, jobs_of-cons, jobs_of-nil}
 
 -- the demand of two lists of jobs is a sum
@@ -86,10 +86,10 @@ piece_room p start end whole within =
 
 -- all pieces ask for no more than their part of the interval
 all_room : (ps : List Piece) (start end : ℕ) → AreUnsplit ps → end ≤ ROUND
-    → demand_in (jobs_of ps) start end * ROUND ≤ (end - start) * load ps
+    → demand_in (jobs_of ps) start end * ROUND ≤ (end - start) * load_of_pieces ps
 all_room [] start end whole within = rw jobs_of-nil (rw (demand_in-none start end) (omega arith))
 all_room (p ∷ ps) start end whole within =
-    let rest : demand_in (jobs_of ps) start end * ROUND ≤ (end - start) * load ps =
+    let rest : demand_in (jobs_of ps) start end * ROUND ≤ (end - start) * load_of_pieces ps =
     all_room ps start end whole.1 within in
     let here : demand_in (first_jobs (subtask_of p) (ROUND / p.period)) start end * ROUND
     ≤ (end - start) * (p.cost * (ROUND / p.period)) = piece_room p start end whole.0 within
@@ -101,17 +101,17 @@ all_room (p ∷ ps) start end whole within =
     ∙ demand_in-append (first_jobs (subtask_of p) (ROUND / p.period)) (jobs_of ps) start end in
     rw split (sum_bound (demand_in (first_jobs (subtask_of p) (ROUND / p.period)) start end)
     (demand_in (jobs_of ps) start end) (end - start) (p.cost * (ROUND / p.period))
-    (load ps) here rest)
+    (load_of_pieces ps) here rest)
   where
     sum_bound : (a b x c d : ℕ) → a * ROUND ≤ x * c → b * ROUND ≤ x * d → (a + b) * ROUND ≤ x * (c + d)
     sum_bound a b x c d h g = omega arith
 
 -- pieces of whole periods fit where they take no more than a round
-pub unsplit_fits : (ps : List Piece) → AreUnsplit ps → load ps ≤ ROUND → Fits (jobs_of ps)
+pub unsplit_fits : (ps : List Piece) → AreUnsplit ps → load_of_pieces ps ≤ ROUND → Fits (jobs_of ps)
 unsplit_fits ps whole light start end lt within =
-    let room : demand_in (jobs_of ps) start end * ROUND ≤ (end - start) * load ps =
+    let room : demand_in (jobs_of ps) start end * ROUND ≤ (end - start) * load_of_pieces ps =
     all_room ps start end whole within in
-    let more = mul-le-mul_left {m = load ps} {n = ROUND} (end - start) light in
+    let more = mul-le-mul_left {m = load_of_pieces ps} {n = ROUND} (end - start) light in
     omega arith
 
 -- one piece more
@@ -120,7 +120,7 @@ all_unsplit_push [] p all whole = (whole, tt)
 all_unsplit_push (q ∷ ps) p all whole = (all.0, all_unsplit_push ps p all.1 whole)
 
 -- the load grows by the piece's
-load_push : (ps : List Piece) (p : Piece) → load (ps ++ p ∷ []) ≡ load ps + p.cost * (ROUND / p.period)
+load_push : (ps : List Piece) (p : Piece) → load_of_pieces (ps ++ p ∷ []) ≡ load_of_pieces ps + p.cost * (ROUND / p.period)
 load_push [] p = omega arith
 load_push (q ∷ ps) p = omega (arith, load_push ps p)
 
@@ -132,6 +132,6 @@ all_unsplit_more ps i d lt all whole =
 
 -- one more piece adds its load
 pub load_more : (ps : List Piece) (i : ℕ) (d : Piece) → i < length ps
-    → load (take (i + 1) ps) ≡ load (take i ps) + (get_or ps i d).cost
+    → load_of_pieces (take (i + 1) ps) ≡ load_of_pieces (take i ps) + (get_or ps i d).cost
     * (ROUND / (get_or ps i d).period)
-load_more ps i d lt = ap load (take_more ps i d lt) ∙ load_push (take i ps) (get_or ps i d)
+load_more ps i d lt = ap load_of_pieces (take_more ps i d lt) ∙ load_push (take i ps) (get_or ps i d)

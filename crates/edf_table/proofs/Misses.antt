@@ -9,7 +9,7 @@ use Rattle.tab_core.specs.declared.piece.Piece.{Piece}
 use Rattle.tab_core.proofs.Periods.{period_facts}
 use Rattle.table_form.specs.Planning.Jobs.{Job, job_of, subtask_of, jobs_of}
 use Rattle.table_form.specs.Planning.Demand.{demand_in, Fits, IsOverloaded}
-use Rattle.edf_table.specs.Inside.Progress.{IsCounted, MetBefore, SomeMissed, ServedBelow, IsMissedAt, IsFirstEnd, had}
+use Rattle.edf_table.specs.Inside.Progress.{AreJobsCounted, MetBefore, SomeMissed, ServedBelow, IsMissedAt, IsFirstEnd, had}
 use Rattle.table_form.specs.Planning.Windows.{DistinctVcpus}
 use Rattle.edf_table.specs.Inside.Progress.{demand_from}
 use Rattle.edf_table.proofs.Criterion.{met_fits, miss_overloads}
@@ -28,7 +28,7 @@ ends_in_round p k tick e le = elim (cases_lt k (ROUND / p.period)) [
 
 -- a window without its cost at its end makes an overload
 window_overloads : (ps : List Piece) (gs : List ℕ) (tick i : ℕ) (d : Piece) → DistinctVcpus ps
-    → IsCounted ps gs tick → i < length ps →
+    → AreJobsCounted ps gs tick → i < length ps →
     IsMissedAt (get_or ps i d) (get_or gs i 0) tick → tick ≤ ROUND
     → (start : ℕ) × IsOverloaded (jobs_of ps) start tick
 window_overloads ps gs tick i d apart counted i-in window le =
@@ -48,13 +48,13 @@ window_overloads ps gs tick i d apart counted i-in window le =
 
 -- a missed window of the piece that a search found makes an overload
 missed_overloads : (ps : List Piece) (gs : List ℕ) (tick : ℕ) (d : Piece) → DistinctVcpus ps
-    → IsCounted ps gs tick → SomeMissed ps gs tick → tick ≤ ROUND →
+    → AreJobsCounted ps gs tick → SomeMissed ps gs tick → tick ≤ ROUND →
     (start : ℕ) × IsOverloaded (jobs_of ps) start tick
 missed_overloads ps gs tick d apart counted missed le =
     window_overloads ps gs tick missed.at d apart counted missed.in_range (missed.missed d) le
 
 -- where the pieces fit, each window is given its cost by its end
-pub fits_served : (ps : List Piece) (gs : List ℕ) (tick : ℕ) → DistinctVcpus ps → IsCounted ps gs tick
+pub fits_served : (ps : List Piece) (gs : List ℕ) (tick : ℕ) → DistinctVcpus ps → AreJobsCounted ps gs tick
     → Fits (jobs_of ps) → tick ≤ ROUND → ServedBelow ps gs tick (length ps)
 fits_served ps gs tick apart counted fits le i d i-in k at =
     elim (cases_lt (get_or gs i 0) ((k + 1) * (get_or ps i d).cost)) [
@@ -65,7 +65,7 @@ fits_served ps gs tick apart counted fits le i d i-in k at =
     ]
 
 -- the simulation of pieces that fit goes on with all met
-pub fits_met : (ps : List Piece) (gs : List ℕ) (tick : ℕ) → DistinctVcpus ps → IsCounted ps gs tick
+pub fits_met : (ps : List Piece) (gs : List ℕ) (tick : ℕ) → DistinctVcpus ps → AreJobsCounted ps gs tick
     → MetBefore (jobs_of ps) tick → Fits (jobs_of ps) → tick ≤ ROUND
     → MetBefore (jobs_of ps) (tick + 1)
 fits_met ps gs tick apart counted met fits le =
@@ -77,7 +77,7 @@ no_piece_missed gs tick missed = let lt = missed.in_range in omega arith
 
 -- a missed window makes an overload, whatever piece comes first
 missed_overloads_any : (ps : List Piece) (gs : List ℕ) (tick : ℕ) → DistinctVcpus ps
-    → IsCounted ps gs tick → SomeMissed ps gs tick → tick ≤ ROUND →
+    → AreJobsCounted ps gs tick → SomeMissed ps gs tick → tick ≤ ROUND →
     (start : ℕ) × IsOverloaded (jobs_of ps) start tick
 missed_overloads_any [] gs tick apart counted missed le = absurd (no_piece_missed gs tick missed)
 missed_overloads_any (p ∷ ps) gs tick apart counted missed le =
@@ -95,7 +95,7 @@ overloads_end_later ps tick apart met s e over = elim (cases_lt e tick) [
 ]
 
 -- the first window without its cost ends where the first overloaded interval ends
-pub first_end : (ps : List Piece) (gs : List ℕ) (tick : ℕ) → DistinctVcpus ps → IsCounted ps gs tick
+pub first_end : (ps : List Piece) (gs : List ℕ) (tick : ℕ) → DistinctVcpus ps → AreJobsCounted ps gs tick
     → MetBefore (jobs_of ps) tick → SomeMissed ps gs tick → tick ≤ ROUND →
     IsFirstEnd (jobs_of ps) tick
 first_end ps gs tick apart counted met missed le =

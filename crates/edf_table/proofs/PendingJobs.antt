@@ -11,7 +11,7 @@ use Rattle.table_form.specs.Planning.Windows.{DistinctVcpus}
 use Rattle.edf_table.specs.declared.pending.Pending.{Pending}
 use Rattle.table_form.specs.Planning.Demand.{Fits}
 use Rattle.table_form.specs.Planning.Jobs.{jobs_of}
-use Rattle.edf_table.specs.Inside.Progress.{AreKept, ArePending, AreTimely, IsAdded, IsDueFirst, IsJobOf, IsKept, IsMostUrgent, IsUnderWay, ServedBelow, SomeMissed, due_at, goal_of, job_at, key_at}
+use Rattle.edf_table.specs.Inside.Progress.{ArePending, ArePiecesKept, AreTimely, IsDueFirst, IsJobInserted, IsJobOf, IsMostUrgent, IsPieceKept, IsUnderWay, ServedBelow, SomeMissed, due_at, goal_of, job_at, urgency_key}
 use Rattle.edf_table.proofs.Calm.{NoneReady}
 use Rattle.edf_table.proofs.Few.{AreAmong, few_pieces, fewer_pieces}
 use Rattle.edf_table.proofs.Kept.{all_kept_later, due_next, goal_next, kept_apart, kept_due, kept_missed, kept_ready, kept_served, ready_goal, some_piece}
@@ -23,8 +23,8 @@ abbrev no_job : Pending
 no_job = record { key = 0; left = 0 }
 
 -- the key of a piece that still has to get ticks is by the end of its window
-key_is : (p : Piece) (tick next : ℕ) → IsKept p (tick + 1) (tick + 1) next → 0 < goal_of p next
-    → key_at p next ≡ due_at p tick * MAX_VCPUS + p.vcpu
+key_is : (p : Piece) (tick next : ℕ) → IsPieceKept p (tick + 1) (tick + 1) next → 0 < goal_of p next
+    → urgency_key p next ≡ due_at p tick * MAX_VCPUS + p.vcpu
 key_is p tick next kept some = ap (λ due. due * MAX_VCPUS + p.vcpu) (kept_due p tick next kept some)
 
 -- a lower key is more urgent
@@ -46,7 +46,7 @@ last_least ps gs ns jobs count j pending lt = elim (cases_lt j (count - 1)) [
 
 -- the piece of the last job is the most urgent
 pub urgent_by_key : (ps : List Piece) (gs ns : List ℕ) (jobs : List Pending) (count tick event i : ℕ)
-    → AreKept ps ns (length ps) (tick + 1) event → tick < event → ArePending ps gs ns jobs count
+    → ArePiecesKept ps ns (length ps) (tick + 1) event → tick < event → ArePending ps gs ns jobs count
     → 0 < count → IsJobOf ps gs ns (job_at jobs (count - 1)) i → IsMostUrgent ps gs tick (length ps) i
 urgent_by_key ps gs ns jobs count tick event i kept' before pending some job =
     let kept = all_kept_later ps ns (length ps) (tick + 1) (tick + 1) event (tick + 1) kept' (omega arith)
@@ -68,7 +68,7 @@ urgent_by_key ps gs ns jobs count tick event i kept' before pending some job =
 
 -- without a job no piece is ready
 pub none_by_key : (ps : List Piece) (gs ns : List ℕ) (jobs : List Pending) (count tick event : ℕ)
-    → AreKept ps ns (length ps) (tick + 1) event → tick < event → ArePending ps gs ns jobs count
+    → ArePiecesKept ps ns (length ps) (tick + 1) event → tick < event → ArePending ps gs ns jobs count
     → count ≡ 0 → NoneReady ps gs tick
 none_by_key ps gs ns jobs count tick event kept' before pending none i d i-in =
     let kept = all_kept_later ps ns (length ps) (tick + 1) (tick + 1) event (tick + 1) kept' (omega arith)
@@ -95,7 +95,7 @@ pending_start ps gs ns jobs goals zeros = record {
 
 -- two pieces have two keys
 two_keys : (ps : List Piece) (ns ms : List ℕ) (i k : ℕ) (d : Piece) → DistinctVcpus ps → i < length ps
-    → k < length ps → i ≢ k → key_at (get_or ps i d) (get_or ns i 0) ≢ key_at (get_or ps k d) (get_or ms k 0)
+    → k < length ps → i ≢ k → urgency_key (get_or ps i d) (get_or ns i 0) ≢ urgency_key (get_or ps k d) (get_or ms k 0)
 two_keys ps ns ms i k d apart i-in k-in ne e =
     distinct_at ps i k d apart i-in k-in ne
     (omega (arith, (get_or ps i d).vcpu_small, (get_or ps k d).vcpu_small))
@@ -104,7 +104,7 @@ two_keys ps ns ms i k d apart i-in k-in ne e =
 two_pieces : (ps : List Piece) (gs ns : List ℕ) (a b : Pending) (i k : ℕ) → IsJobOf ps gs ns a i
     → IsJobOf ps gs ns b k → (d : Piece) → a.key ≢ b.key → i ≢ k
 two_pieces ps gs ns a b i k at bt d ne same =
-    ne (at.key_is d ∙ ap (λ m. key_at (get_or ps m d) (get_or ns m 0)) same ∙ sym (bt.key_is d))
+    ne (at.key_is d ∙ ap (λ m. urgency_key (get_or ps m d) (get_or ns m 0)) same ∙ sym (bt.key_is d))
 
 -- what another piece is given leaves a job as it is
 still_job : (ps : List Piece) (gs ns : List ℕ) (job : Pending) (i k g : ℕ) → IsJobOf ps gs ns job k → k ≢ i
@@ -143,7 +143,7 @@ pending_done ps gs ns jobs count i ticks apart i-in pending some job all_left = 
   where
     all' : (k : ℕ) (d : Piece) → k < length ps
         → get_or (set gs i (get_or gs i 0 + ticks)) k 0 < goal_of (get_or ps k d) (get_or ns k 0)
-        → (j : ℕ) × (j < count - 1) × ((job_at jobs j).key ≡ key_at (get_or ps k d) (get_or ns k 0))
+        → (j : ℕ) × (j < count - 1) × ((job_at jobs j).key ≡ urgency_key (get_or ps k d) (get_or ns k 0))
     all' k d k-in short = elim (cases_eq k i) [
       | inl same ↦
           (let here : get_or (set gs i (get_or gs i 0 + ticks)) i 0 < goal_of (get_or ps i d)
@@ -161,8 +161,8 @@ pending_done ps gs ns jobs count i ticks apart i-in pending some job all_left = 
             | inl before ↦ (there.0, before, there.2)
             | inr last ↦
                 (let at : there.0 ≡ count - 1 = omega (arith, there.1) in
-                let key : (job_at jobs (count - 1)).key ≡ key_at (get_or ps k d) (get_or ns k 0) =
-                subst (λ m. (job_at jobs m).key ≡ key_at (get_or ps k d) (get_or ns k 0)) at there.2 in
+                let key : (job_at jobs (count - 1)).key ≡ urgency_key (get_or ps k d) (get_or ns k 0) =
+                subst (λ m. (job_at jobs m).key ≡ urgency_key (get_or ps k d) (get_or ns k 0)) at there.2 in
                 absurd (two_keys ps ns ns k i d apart k-in job.in_range ne (sym key ∙ job.key_is d)))
           ])
     ]
@@ -228,13 +228,13 @@ pending_run ps gs ns jobs count i ticks less i-in pending some job lt key left =
     all' : (k : ℕ) (d : Piece) → k < length ps
         → get_or (set gs i (get_or gs i 0 + ticks)) k 0 < goal_of (get_or ps k d) (get_or ns k 0)
         → (j : ℕ) × (j < count)
-        × ((job_at (set jobs (count - 1) less) j).key ≡ key_at (get_or ps k d) (get_or ns k 0))
+        × ((job_at (set jobs (count - 1) less) j).key ≡ urgency_key (get_or ps k d) (get_or ns k 0))
     all' k d k-in short = elim (cases_eq k i) [
       | inl same ↦ (
         count - 1,
         omega arith,
         key_at_place (count - 1) ∙ job.key_is d
-            ∙ ap (λ m. key_at (get_or ps m d) (get_or ns m 0)) (sym same),
+            ∙ ap (λ m. urgency_key (get_or ps m d) (get_or ns m 0)) (sym same),
       )
       | inr ne ↦
           (let there = pending.all k d k-in
@@ -245,7 +245,7 @@ pending_run ps gs ns jobs count i ticks less i-in pending some job lt key left =
 
 -- a piece whose next window begins has no job, where none is due by now
 pub idle_piece : (ps : List Piece) (gs ns : List ℕ) (jobs : List Pending) (count tick i : ℕ) (d : Piece)
-    → IsKept (get_or ps i d) tick tick (get_or ns i 0) → get_or ns i 0 ≡ tick → i < length ps
+    → IsPieceKept (get_or ps i d) tick tick (get_or ns i 0) → get_or ns i 0 ≡ tick → i < length ps
     → ArePending ps gs ns jobs count → AreTimely jobs count (tick + 1)
     → goal_of (get_or ps i d) (get_or ns i 0) ≤ get_or gs i 0
 idle_piece ps gs ns jobs count tick i d kept at i-in pending timely =
@@ -316,7 +316,7 @@ same_place : (ps : List Piece) (gs ns : List ℕ) (jobs : List Pending) (count k
 same_place ps gs ns jobs count k m d p q apart pending a b e = elim (cases_eq a.piece b.piece) [
   | inl same ↦
       (let keys : (job_at jobs a.job).key ≡ (job_at jobs b.job).key =
-      a.of.key_is d ∙ ap (λ n. key_at (get_or ps n d) (get_or ns n 0)) same ∙ sym (b.of.key_is d) in
+      a.of.key_is d ∙ ap (λ n. urgency_key (get_or ps n d) (get_or ns n 0)) same ∙ sym (b.of.key_is d) in
       elim (cases_lt k m) [
         | inl before ↦ absurd (omega (
           arith,
@@ -379,7 +379,7 @@ room_for_job ps gs ns jobs count i d apart i-in pending idle =
 
 -- beside the jobs there is room for one of a piece whose next window begins
 pub room_to_begin : (ps : List Piece) (gs ns : List ℕ) (jobs : List Pending) (count tick i : ℕ) (d : Piece)
-    → DistinctVcpus ps → IsKept (get_or ps i d) tick tick (get_or ns i 0) → get_or ns i 0 ≡ tick
+    → DistinctVcpus ps → IsPieceKept (get_or ps i d) tick tick (get_or ns i 0) → get_or ns i 0 ≡ tick
     → i < length ps
     → ArePending ps gs ns jobs count → AreTimely jobs count (tick + 1) → count < length ps
 room_to_begin ps gs ns jobs count tick i d apart kept at i-in pending timely =
@@ -387,7 +387,7 @@ room_to_begin ps gs ns jobs count tick i d apart kept at i-in pending timely =
     (idle_piece ps gs ns jobs count tick i d kept at i-in pending timely)
 
 -- no job is due before the tick that the new one isn't due before either
-pub timely_added : (old new : List Pending) (count tick : ℕ) (job : Pending) → IsAdded old new count job
+pub timely_added : (old new : List Pending) (count tick : ℕ) (job : Pending) → IsJobInserted old new count job
     → AreTimely old count tick → tick * MAX_VCPUS ≤ job.key → AreTimely new (count + 1) tick
 timely_added old new count tick job added timely later j lt = elim (cases_lt j added.at) [
   | inl before ↦ rw (added.before j before) (timely j (omega (arith, added.within)))
@@ -403,7 +403,7 @@ timely_added old new count tick job added timely later j lt = elim (cases_lt j a
 -- a job more, of a piece that had none and whose next window has begun
 pub pending_added : (ps : List Piece) (gs ns ms : List ℕ) (old new : List Pending) (count i : ℕ)
     (job : Pending)
-    → DistinctVcpus ps → ArePending ps gs ns old count → IsAdded old new count job → count < length new
+    → DistinctVcpus ps → ArePending ps gs ns old count → IsJobInserted old new count job → count < length new
     → ((d : Piece) → goal_of (get_or ps i d) (get_or ns i 0) ≤ get_or gs i 0)
     → ((k : ℕ) → k ≢ i → get_or ms k 0 ≡ get_or ns k 0) → IsJobOf ps gs ms job i
     → ArePending ps gs ms new (count + 1)
@@ -496,19 +496,19 @@ pending_added ps gs ns ms old new count i job apart pending added room idle same
     ]
 
     all' : (k : ℕ) (d : Piece) → k < length ps → get_or gs k 0 < goal_of (get_or ps k d) (get_or ms k 0)
-        → (j : ℕ) × (j < count + 1) × ((job_at new j).key ≡ key_at (get_or ps k d) (get_or ms k 0))
+        → (j : ℕ) × (j < count + 1) × ((job_at new j).key ≡ urgency_key (get_or ps k d) (get_or ms k 0))
     all' k d k-in short = elim (cases_eq k i) [
       | inl at ↦ (
         added.at,
         omega (arith, added.within),
         ap (λ (x : Pending). x.key) added.here ∙ fresh.key_is d
-            ∙ ap (λ m. key_at (get_or ps m d) (get_or ms m 0)) (sym at),
+            ∙ ap (λ m. urgency_key (get_or ps m d) (get_or ms m 0)) (sym at),
       )
       | inr ne ↦
           (let there = pending.all k d k-in
           (subst (λ n. get_or gs k 0 < goal_of (get_or ps k d) n) (same k ne) short) in
-          let key : (job_at old there.0).key ≡ key_at (get_or ps k d) (get_or ms k 0) =
-          there.2 ∙ ap (key_at (get_or ps k d)) (sym (same k ne)) in
+          let key : (job_at old there.0).key ≡ urgency_key (get_or ps k d) (get_or ms k 0) =
+          there.2 ∙ ap (urgency_key (get_or ps k d)) (sym (same k ne)) in
           elim (cases_lt there.0 added.at) [
             | inl before ↦ (
               there.0,
@@ -526,7 +526,7 @@ pending_added ps gs ns ms old new count i job apart pending added room idle same
 -- the job of a window that has begun, of a piece that was given all before
 pub begun_job : (ps : List Piece) (gs ns : List ℕ) (tick i after : ℕ) (job : Pending) → i < length ps
     → i < length ns → get_or ns i 0 ≡ tick
-    → ((d : Piece) → IsKept (get_or ps i d) tick tick (get_or ns i 0))
+    → ((d : Piece) → IsPieceKept (get_or ps i d) tick tick (get_or ns i 0))
     → ((d : Piece) → goal_of (get_or ps i d) (get_or ns i 0) ≡ get_or gs i 0)
     → ((d : Piece) → after ≡ tick + (get_or ps i d).period)
     → ((d : Piece)
@@ -549,15 +549,15 @@ begun_job ps gs ns tick i after job i-in i-in' at kept given after_is key left =
       ∙ sym (due_next (get_or ps i d) (get_or ns i 0) after (kept_here d) (next_is d))));
 }
   where
-    kept_here : (d : Piece) → IsKept (get_or ps i d) (get_or ns i 0) (get_or ns i 0) (get_or ns i 0)
-    kept_here d = subst (λ n. IsKept (get_or ps i d) n n (get_or ns i 0)) (sym at) (kept d)
+    kept_here : (d : Piece) → IsPieceKept (get_or ps i d) (get_or ns i 0) (get_or ns i 0) (get_or ns i 0)
+    kept_here d = subst (λ n. IsPieceKept (get_or ps i d) n n (get_or ns i 0)) (sym at) (kept d)
 
     next_is : (d : Piece) → after ≡ get_or ns i 0 + (get_or ps i d).period
     next_is d = after_is d ∙ ap (λ n. n + (get_or ps i d).period) (sym at)
 
 -- where none of the jobs is due by now, each window that ends now has had its cost
 pub timely_served : (ps : List Piece) (gs ns : List ℕ) (jobs : List Pending) (count tick : ℕ)
-    → AreKept ps ns (length ps) tick tick → ArePending ps gs ns jobs count → AreTimely jobs count (tick + 1)
+    → ArePiecesKept ps ns (length ps) tick tick → ArePending ps gs ns jobs count → AreTimely jobs count (tick + 1)
     → ServedBelow ps gs tick (length ps)
 timely_served ps gs ns jobs count tick kept pending timely i d i-in =
     let p = get_or ps i d in
@@ -580,7 +580,7 @@ last_timely ps gs ns jobs count tick pending last j lt =
 
 -- where the last job is due now, its window was missed
 pub last_missed : (ps : List Piece) (gs ns : List ℕ) (jobs : List Pending) (count tick : ℕ)
-    → AreKept ps ns (length ps) tick tick → ArePending ps gs ns jobs count → AreTimely jobs count tick
+    → ArePiecesKept ps ns (length ps) tick tick → ArePending ps gs ns jobs count → AreTimely jobs count tick
     → 0 < count → (job_at jobs (count - 1)).key < (tick + 1) * MAX_VCPUS → SomeMissed ps gs tick
 last_missed ps gs ns jobs count tick kept pending timely some late =
     let there = pending.each (count - 1) (omega arith) in
@@ -598,7 +598,7 @@ last_missed ps gs ns jobs count tick kept pending timely some late =
 
 -- where each window that ends now has had its cost, no job is due by now
 pub served_timely : (ps : List Piece) (gs ns : List ℕ) (jobs : List Pending) (count tick : ℕ)
-    → AreKept ps ns (length ps) tick tick → ArePending ps gs ns jobs count → AreTimely jobs count tick
+    → ArePiecesKept ps ns (length ps) tick tick → ArePending ps gs ns jobs count → AreTimely jobs count tick
     → ServedBelow ps gs tick (length ps) → AreTimely jobs count (tick + 1)
 served_timely ps gs ns jobs count tick kept pending timely served =
     last_timely ps gs ns jobs count (tick + 1) pending
@@ -612,7 +612,7 @@ served_timely ps gs ns jobs count tick kept pending timely served =
     ])
 
 -- no window of the piece has begun before the round
-goal_first : (p : Piece) (next : ℕ) → IsKept p 0 0 next → goal_of p next ≡ 0
+goal_first : (p : Piece) (next : ℕ) → IsPieceKept p 0 0 next → goal_of p next ≡ 0
 goal_first p next kept = elim (cases_lt 0 kept.count) [
   | inl some ↦
       (let more = mul-le-mul_left {m = 1} {n = kept.count} p.period (omega arith) in
@@ -625,7 +625,7 @@ goal_first p next kept = elim (cases_lt 0 kept.count) [
 
 -- the simulation begins without a job
 pub under_way_start : (ps : List Piece) (ns : List ℕ) (jobs : List Pending) → DistinctVcpus ps
-    → AreKept ps ns (length ps) 0 0 → IsUnderWay ps ns jobs 0 0 0 0 0
+    → ArePiecesKept ps ns (length ps) 0 0 → IsUnderWay ps ns jobs 0 0 0 0 0
 under_way_start ps ns jobs apart kept = record {
   given = replicate MAX_VCPUS 0;
   kept = kept;
@@ -639,7 +639,7 @@ under_way_start ps ns jobs apart kept = record {
 
 -- the simulation that is under way keeps what else is kept of the windows
 pub under_way_kept : (ps : List Piece) (ns : List ℕ) (jobs : List Pending) (count tick b c served e f : ℕ)
-    → IsUnderWay ps ns jobs count tick b served e → AreKept ps ns (length ps) c f
+    → IsUnderWay ps ns jobs count tick b served e → ArePiecesKept ps ns (length ps) c f
     → IsUnderWay ps ns jobs count tick c served f
 under_way_kept ps ns jobs count tick b c served e f here kept = record {
   given = here.given;
@@ -660,7 +660,7 @@ under_way_later ps ns jobs count tick b c served e f here le le' =
 
 -- what is kept at a tick whose windows have not begun
 kept_now : (ps : List Piece) (ns : List ℕ) (jobs : List Pending) (count tick event : ℕ)
-    → IsUnderWay ps ns jobs count tick tick tick event → tick ≤ event → AreKept ps ns (length ps) tick tick
+    → IsUnderWay ps ns jobs count tick tick tick event → tick ≤ event → ArePiecesKept ps ns (length ps) tick tick
 kept_now ps ns jobs count tick event here le =
     all_kept_later ps ns (length ps) tick tick event tick here.kept (omega arith) le
 

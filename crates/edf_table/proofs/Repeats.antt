@@ -8,7 +8,7 @@ use Rattle.tab_core.specs.declared.piece.Piece.{Piece}
 use Rattle.tab_core.proofs.Periods.{period_facts}
 use Rattle.table_form.specs.Planning.Jobs.{job_of, jobs_of, subtask_of}
 use Rattle.table_form.specs.Planning.Windows.{DistinctVcpus}
-use Rattle.edf_table.specs.Inside.Progress.{IsCommon, IsCounted, IsDueFirst, IsMostUrgent, MetBefore, ServedBelow, due_at, had, is_ready, window_no}
+use Rattle.edf_table.specs.Inside.Progress.{AreJobsCounted, IsCommonMultiple, IsDueFirst, IsMostUrgent, MetBefore, ServedBelow, due_at, had, is_ready, window_no}
 use Rattle.edf_table.proofs.Calm.{NoneReady}
 use Rattle.edf_table.proofs.Counts.{had_le_had, nothing_early}
 use Rattle.edf_table.proofs.Few.{few_pieces}
@@ -19,7 +19,7 @@ use Rattle.edf_table.proofs.Steps.{counted_idle, counted_run, counted_start, idl
 use Rattle.edf_table.proofs.Turns.{begun, not_later, ready_parts, some_period, urgent_new}
 
 -- the period of each piece divides the round
-pub round_common : (ps : List Piece) → IsCommon ps (length ps) ROUND
+pub round_common : (ps : List Piece) → IsCommonMultiple ps (length ps) ROUND
 round_common ps i d lt =
     let p = get_or ps i d in
     let facts = period_facts p.period p.listed in
@@ -100,7 +100,7 @@ IsShifted ps gs hs s = (i : ℕ) (d : Piece) → i < length ps
     → get_or hs i 0 ≡ s / (get_or ps i d).period * (get_or ps i d).cost + get_or gs i 0
 
 -- after the shift the same pieces are ready
-pub ready_alike : (ps : List Piece) (gs hs : List ℕ) (s x i : ℕ) (d : Piece) → IsCommon ps (length ps) s
+pub ready_alike : (ps : List Piece) (gs hs : List ℕ) (s x i : ℕ) (d : Piece) → IsCommonMultiple ps (length ps) s
     → IsShifted ps gs hs s → i < length ps
     → is_ready (get_or ps i d) (get_or hs i 0) (s + x) ≡ is_ready (get_or ps i d) (get_or gs i 0) x
 ready_alike ps gs hs s x i d common shifted i-in =
@@ -108,7 +108,7 @@ ready_alike ps gs hs s x i d common shifted i-in =
     ∙ ready_shift (get_or ps i d) (get_or gs i 0) s x (common i d i-in)
 
 -- after the shift the same piece is the most urgent
-pub urgent_alike : (ps : List Piece) (gs hs : List ℕ) (s x i : ℕ) → IsCommon ps (length ps) s
+pub urgent_alike : (ps : List Piece) (gs hs : List ℕ) (s x i : ℕ) → IsCommonMultiple ps (length ps) s
     → IsShifted ps gs hs s → IsMostUrgent ps gs x (length ps) i
     → IsMostUrgent ps hs (s + x) (length ps) i
 urgent_alike ps gs hs s x i common shifted urgent = record {
@@ -128,8 +128,8 @@ urgent_alike ps gs hs s x i common shifted urgent = record {
 }
 
 -- no window that ends at the shifted tick was missed, where none that ends at the tick does
-served_alike : (ps : List Piece) (gs hs : List ℕ) (s x : ℕ) → IsCommon ps (length ps) s
-    → IsShifted ps gs hs s → IsCounted ps gs x → MetBefore (jobs_of ps) (x + 1) → x ≤ ROUND
+served_alike : (ps : List Piece) (gs hs : List ℕ) (s x : ℕ) → IsCommonMultiple ps (length ps) s
+    → IsShifted ps gs hs s → AreJobsCounted ps gs x → MetBefore (jobs_of ps) (x + 1) → x ≤ ROUND
     → ServedBelow ps hs (s + x) (length ps)
 served_alike ps gs hs s x common shifted counted met within i d i-in k at =
     let p = get_or ps i d in
@@ -266,8 +266,8 @@ some_urgent ps gs tick (suc n) le =
 pub record Alike (ps : List Piece) (s x : ℕ) : Type 0 where
   pub first : List ℕ
   pub second : List ℕ
-  pub counted : IsCounted ps first x
-  pub counted_again : IsCounted ps second (s + x)
+  pub counted : AreJobsCounted ps first x
+  pub counted_again : AreJobsCounted ps second (s + x)
   pub shifted : IsShifted ps first second s
   pub met : MetBefore (jobs_of ps) (s + x)
 
@@ -291,14 +291,14 @@ shifted_run ps gs hs s i in_gs in_hs shifted k d k-in = elim (cases_eq k i) [
 ]
 
 -- the shifted simulation meets what is due by the next tick
-pub met_again : (ps : List Piece) (s x : ℕ) → IsCommon ps (length ps) s → MetBefore (jobs_of ps) (x + 1)
+pub met_again : (ps : List Piece) (s x : ℕ) → IsCommonMultiple ps (length ps) s → MetBefore (jobs_of ps) (x + 1)
     → x ≤ ROUND → (now : Alike ps s x) → MetBefore (jobs_of ps) (s + x + 1)
 met_again ps s x common met within now =
     met_more_any ps now.second (s + x) now.counted_again now.met
     (served_alike ps now.first now.second s x common now.shifted now.counted met within)
 
 -- one tick more
-alike_more : (ps : List Piece) (s x : ℕ) → DistinctVcpus ps → IsCommon ps (length ps) s
+alike_more : (ps : List Piece) (s x : ℕ) → DistinctVcpus ps → IsCommonMultiple ps (length ps) s
     → MetBefore (jobs_of ps) (x + 1) → s + x < ROUND → Alike ps s x → Alike ps s (x + 1)
 alike_more ps s x apart common met lt now =
     let again = met_again ps s x common met (omega arith) now in
@@ -311,7 +311,7 @@ alike_more ps s x apart common met lt now =
             first = one_more now.first i;
             second = one_more now.second i;
             counted = counted_run ps now.first x i apart now.counted met (omega arith) best.1;
-            counted_again = subst (IsCounted ps (one_more now.second i)) at
+            counted_again = subst (AreJobsCounted ps (one_more now.second i)) at
                 (counted_run ps now.second (s + x) i apart now.counted_again again lt urgent);
             shifted = shifted_run ps now.first now.second s i
                 (omega (arith, best.1.in_range, now.counted.enough))
@@ -327,7 +327,7 @@ alike_more ps s x apart common met lt now =
             second = now.second;
             counted = counted_idle ps now.first x now.counted
                 (idle_cell_any ps now.first x now.counted met (omega arith) none);
-            counted_again = subst (IsCounted ps now.second) at
+            counted_again = subst (AreJobsCounted ps now.second) at
                 (counted_idle ps now.second (s + x) now.counted_again
                 (idle_cell_any ps now.second (s + x) now.counted_again again lt unready));
             shifted = now.shifted;
@@ -336,7 +336,7 @@ alike_more ps s x apart common met lt now =
     ]
 
 -- so many ticks more go to the same pieces after the shift
-pub alike_along : (ps : List Piece) (s n : ℕ) → DistinctVcpus ps → IsCommon ps (length ps) s
+pub alike_along : (ps : List Piece) (s n : ℕ) → DistinctVcpus ps → IsCommonMultiple ps (length ps) s
     → MetBefore (jobs_of ps) (n + 1) → s + n ≤ ROUND → Alike ps s 0 → Alike ps s n
 alike_along ps s zero apart common met le now = now
 alike_along ps s (suc n) apart common met le now =
@@ -347,7 +347,7 @@ alike_along ps s (suc n) apart common met le now =
 
 -- after a multiple of all periods each piece was given the cost of its windows
 all_given : (ps : List Piece) (gs : List ℕ) (h i : ℕ) (d : Piece) → DistinctVcpus ps
-    → IsCommon ps (length ps) h → 0 < h → h < ROUND → IsCounted ps gs h → MetBefore (jobs_of ps) (h + 1)
+    → IsCommonMultiple ps (length ps) h → 0 < h → h < ROUND → AreJobsCounted ps gs h → MetBefore (jobs_of ps) (h + 1)
     → i < length ps → get_or gs i 0 ≡ h / (get_or ps i d).period * (get_or ps i d).cost
 all_given ps gs h i d apart common some lt counted met i-in =
     let p = get_or ps i d in
@@ -383,8 +383,8 @@ all_given ps gs h i d apart common some lt counted met i-in =
     ]
 
 -- a multiple of all periods and one more
-common_more : (ps : List Piece) (s h i : ℕ) (d : Piece) → IsCommon ps (length ps) s
-    → IsCommon ps (length ps) h → i < length ps
+common_more : (ps : List Piece) (s h i : ℕ) (d : Piece) → IsCommonMultiple ps (length ps) s
+    → IsCommonMultiple ps (length ps) h → i < length ps
     → (s + h) / (get_or ps i d).period ≡ s / (get_or ps i d).period + h / (get_or ps i d).period
 common_more ps s h i d common common' i-in =
     let p = get_or ps i d in
@@ -398,8 +398,8 @@ common_more ps s h i d common common' i-in =
 -- what is known at a multiple of all periods: the simulation is as at the begin of the round
 pub record Anew (ps : List Piece) (s : ℕ) : Type 0 where
   pub given : List ℕ
-  pub common : IsCommon ps (length ps) s
-  pub counted : IsCounted ps given s
+  pub common : IsCommonMultiple ps (length ps) s
+  pub counted : AreJobsCounted ps given s
   pub shifted : IsShifted ps (replicate MAX_VCPUS 0) given s
   pub met : MetBefore (jobs_of ps) s
 
@@ -425,13 +425,13 @@ alike_start ps s apart anew =
       first = replicate MAX_VCPUS 0;
       second = anew.given;
       counted = counted_start ps MAX_VCPUS (few_pieces ps apart);
-      counted_again = subst (IsCounted ps anew.given) at anew.counted;
+      counted_again = subst (AreJobsCounted ps anew.given) at anew.counted;
       shifted = anew.shifted;
       met = subst (MetBefore (jobs_of ps)) at anew.met;
     }
 
 -- the simulation begins anew at each further multiple
-anew_more : (ps : List Piece) (s h : ℕ) → DistinctVcpus ps → IsCommon ps (length ps) h → 0 < h → h < ROUND
+anew_more : (ps : List Piece) (s h : ℕ) → DistinctVcpus ps → IsCommonMultiple ps (length ps) h → 0 < h → h < ROUND
     → MetBefore (jobs_of ps) (h + 1) → s + h ≤ ROUND → Anew ps s → Anew ps (s + h)
 anew_more ps s h apart common some lt met le anew =
     let after = alike_along ps s h apart anew.common met le (alike_start ps s apart anew) in
@@ -459,7 +459,7 @@ anew_more ps s h apart common some lt met le anew =
     }
 
 -- at k multiples of a part of the round
-pub anew_at : (ps : List Piece) (h k : ℕ) → DistinctVcpus ps → IsCommon ps (length ps) h → 0 < h → h < ROUND
+pub anew_at : (ps : List Piece) (h k : ℕ) → DistinctVcpus ps → IsCommonMultiple ps (length ps) h → 0 < h → h < ROUND
     → MetBefore (jobs_of ps) (h + 1) → k * h ≤ ROUND → Anew ps (k * h)
 anew_at ps h zero apart common some lt met le =
     let none : 0 ≡ 0 * h = omega arith in subst (Anew ps) none (anew_start ps apart)
@@ -470,7 +470,7 @@ anew_at ps h (suc k) apart common some lt met le =
     (anew_at ps h k apart common some lt met (omega arith)))
 
 -- where all is met to a multiple of all periods that divides the round, all is met in the round
-pub all_met : (ps : List Piece) (h : ℕ) → DistinctVcpus ps → IsCommon ps (length ps) h → 0 < h
+pub all_met : (ps : List Piece) (h : ℕ) → DistinctVcpus ps → IsCommonMultiple ps (length ps) h → 0 < h
     → ROUND / h * h ≡ ROUND → MetBefore (jobs_of ps) (h + 1) → MetBefore (jobs_of ps) (ROUND + 1)
 all_met ps h apart common some whole met = elim (cases_lt h ROUND) [
   | inr all ↦ (λ j a lt. met j a (omega arith))

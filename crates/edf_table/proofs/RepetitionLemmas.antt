@@ -11,7 +11,7 @@ use Rattle.table_form.specs.Planning.Windows.{DistinctVcpus}
 use Rattle.table_form.specs.declared.segment.Segment.{Segment}
 use Rattle.table_form.specs.Tables.Rows.{RisesTo, Row, cells_from}
 use Rattle.table_form.proofs.RowLemmas.{cells-cons, rises_parts}
-use Rattle.edf_table.specs.Inside.Progress.{IsCommon, MetBefore, cell}
+use Rattle.edf_table.specs.Inside.Progress.{IsCommonMultiple, MetBefore, cell}
 use Rattle.edf_table.specs.Inside.Repetition.{so_often}
 use Rattle.edf_table.proofs.Calm.{NoneReady}
 use Rattle.edf_table.proofs.Cells.{edf_cells-suc, edf_cells-zero}
@@ -52,7 +52,7 @@ left_cells ss i start s lt at =
     ap (cells_from start) (drop_next ss i s lt at) ∙ cells-cons start s (drop (i + 1) ss)
 
 -- a shifted tick goes to the same vCPU
-owner_alike : (ps : List Piece) (s x : ℕ) → DistinctVcpus ps → IsCommon ps (length ps) s
+owner_alike : (ps : List Piece) (s x : ℕ) → DistinctVcpus ps → IsCommonMultiple ps (length ps) s
     → MetBefore (jobs_of ps) (x + 1) → s + x < ROUND → Alike ps s x
     → owner_of (cell (jobs_of ps) (s + x)) ≡ owner_of (cell (jobs_of ps) x)
 owner_alike ps s x apart common met lt now =
@@ -85,7 +85,7 @@ owners-suc ps n =
     ∙ map-append owner_of (edf_cells (jobs_of ps) n) (cell (jobs_of ps) n ∷ [])
 
 -- the cells after the shift are those of the begin
-owners_alike : (ps : List Piece) (s n : ℕ) → DistinctVcpus ps → IsCommon ps (length ps) s
+owners_alike : (ps : List Piece) (s n : ℕ) → DistinctVcpus ps → IsCommonMultiple ps (length ps) s
     → MetBefore (jobs_of ps) (n + 1) → s + n ≤ ROUND → Alike ps s 0
     → owners ps (s + n) ≡ owners ps s ++ owners ps n
 owners_alike ps s zero apart common met le now =
@@ -111,7 +111,7 @@ owners_alike ps s (suc n) apart common met le now =
     ∙ ap (λ k. owners ps s ++ owners ps k) next
 
 -- the first k multiples of a part of the round
-owners_repeat : (ps : List Piece) (h k : ℕ) → DistinctVcpus ps → IsCommon ps (length ps) h → 0 < h
+owners_repeat : (ps : List Piece) (h k : ℕ) → DistinctVcpus ps → IsCommonMultiple ps (length ps) h → 0 < h
     → h < ROUND → MetBefore (jobs_of ps) (h + 1) → k * h ≤ ROUND
     → so_often k (owners ps h) ≡ owners ps (k * h)
 owners_repeat ps h zero apart common some lt met le =
@@ -130,7 +130,7 @@ owners_repeat ps h (suc k) apart common some lt met le =
     ∙ ap (owners ps) at
 
 -- the row is the cells below a multiple of all periods, again and again
-pub row_repeats : (ps : List Piece) (h : ℕ) → DistinctVcpus ps → IsCommon ps (length ps) h → 0 < h
+pub row_repeats : (ps : List Piece) (h : ℕ) → DistinctVcpus ps → IsCommonMultiple ps (length ps) h → 0 < h
     → h ≤ ROUND → ROUND / h * h ≡ ROUND → MetBefore (jobs_of ps) (h + 1)
     → so_often (ROUND / h) (map owner_of (edf_cells (jobs_of ps) h)) ≡ edf_row (jobs_of ps)
 unfolding edf_row

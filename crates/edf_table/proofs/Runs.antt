@@ -7,7 +7,7 @@ use Rattle.tab_core.specs.declared.piece.Piece.{Piece}
 use Rattle.table_form.specs.Planning.Jobs.{jobs_of}
 use Rattle.table_form.specs.Planning.Windows.{DistinctVcpus}
 use Rattle.edf_table.specs.declared.pending.Pending.{Pending}
-use Rattle.edf_table.specs.Inside.Progress.{ArePending, AreTimely, GoesTo, IsCounted, IsJobOf, IsUnderWay, MetBefore, due_of, job_at, key_at}
+use Rattle.edf_table.specs.Inside.Progress.{AreJobsCounted, ArePending, AreTimely, GoesTo, IsJobOf, IsUnderWay, MetBefore, due_of, job_at, urgency_key}
 use Rattle.edf_table.proofs.Calm.{idle_along, idle_goes, run_along, run_goes}
 use Rattle.edf_table.proofs.Kept.{all_kept_later, before_idle, before_run, lacks_all, some_piece}
 use Rattle.edf_table.proofs.PendingJobs.{last_timely, none_by_key, urgent_by_key}
@@ -28,19 +28,19 @@ idles_on ps ns jobs count tick event apart here before in_round none =
             (omega arith);
         pending = here.pending;
         timely = λ j lt. absurd (omega arith);
-        counted = subst (IsCounted ps gs) at along.0;
+        counted = subst (AreJobsCounted ps gs) at along.0;
         met = subst (MetBefore (jobs_of ps)) at along.1;
       },
       idle_goes ps gs tick event idle unready,
     )
 
 -- when the piece's job is due, by its key
-due_by_key : (p : Piece) (next key : ℕ) → key ≡ key_at p next → key / MAX_VCPUS ≡ due_of p next
+due_by_key : (p : Piece) (next key : ℕ) → key ≡ urgency_key p next → key / MAX_VCPUS ≡ due_of p next
 due_by_key p next key is = ap (λ n. n / MAX_VCPUS) is
     ∙ div-mul-add (due_of p next) MAX_VCPUS p.vcpu p.vcpu_small
 
 -- of which vCPU the piece's job is, by its key
-vcpu_by_key : (p : Piece) (next key : ℕ) → key ≡ key_at p next → key % MAX_VCPUS ≡ p.vcpu
+vcpu_by_key : (p : Piece) (next key : ℕ) → key ≡ urgency_key p next → key % MAX_VCPUS ≡ p.vcpu
 vcpu_by_key p next key is = ap (λ n. n % MAX_VCPUS) is
     ∙ mod-mul-add (due_of p next) MAX_VCPUS p.vcpu p.vcpu_small
 

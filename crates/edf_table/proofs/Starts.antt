@@ -7,7 +7,7 @@ use Rattle.tab_core.specs.declared.TheConstants.{ROUND}
 use Rattle.tab_core.specs.declared.piece.Piece.{Piece}
 use Rattle.table_form.specs.Planning.Jobs.{Job, Subtask, job_of, subtask_of, first_jobs, jobs_of}
 use Rattle.table_form.specs.Planning.Demand.{IsOverloaded, demand_in, is_inside}
-use Rattle.edf_table.specs.Inside.Progress.{Among, NoBegin, SomeBegin, demand_from}
+use Rattle.edf_table.specs.Inside.Progress.{Among, NoWindowBegins, SomeBegin, demand_from}
 use Rattle.edf_table.proofs.Sums.{sum_le, sum_zero}
 use Rattle.edf_table.proofs.Turns.{some_period}
 use Rattle.edf_table.proofs.Misses.{ends_in_round, demand_step}
@@ -180,7 +180,7 @@ same_demand js s m e le none =
     omega arith
 
 -- no job is released between
-no_release : (ps : List Piece) (from tick : ℕ) → NoBegin ps (length ps) from tick → (j : Job)
+no_release : (ps : List Piece) (from tick : ℕ) → NoWindowBegins ps (length ps) from tick → (j : Job)
     → Among (jobs_of ps) j → from < j.release → tick ≤ j.release
 no_release [] from tick none j a later = absurd (no_jobs j a)
 no_release (p ∷ ps) from tick none j a later =
@@ -189,14 +189,14 @@ no_release (p ∷ ps) from tick none j a later =
     subst P place.4 (none place.0 p place.1 place.2) later
 
 -- the search may skip the ticks between two begins
-demand_between : (ps : List Piece) (from s tick e : ℕ) → NoBegin ps (length ps) from tick → from < s
+demand_between : (ps : List Piece) (from s tick e : ℕ) → NoWindowBegins ps (length ps) from tick → from < s
     → s ≤ tick → demand_in (jobs_of ps) s e ≡ demand_in (jobs_of ps) tick e
 demand_between ps from s tick e none lt le =
     same_demand (jobs_of ps) s tick e le (λ j a at. no_release ps from tick none j a (omega arith))
 
 -- one begin further back
 pub demand_back : (ps : List Piece) (from tick end demand more : ℕ)
-    → NoBegin ps (length ps) from tick → from < tick → demand ≡ demand_in (jobs_of ps) tick end
+    → NoWindowBegins ps (length ps) from tick → from < tick → demand ≡ demand_in (jobs_of ps) tick end
     → more ≡ demand_from (jobs_of ps) from end →
     demand + more ≡ demand_in (jobs_of ps) from end
 demand_back ps from tick end demand more none lt d m =
@@ -205,7 +205,7 @@ demand_back ps from tick end demand more none lt d m =
     omega arith
 
 -- an interval that begins later isn't overloaded, where those from the next begin on aren't
-pub fits_later : (ps : List Piece) (from tick end : ℕ) → NoBegin ps (length ps) from tick
+pub fits_later : (ps : List Piece) (from tick end : ℕ) → NoWindowBegins ps (length ps) from tick
     → tick ≤ end → demand_in (jobs_of ps) tick end ≤ end - tick →
     ((s : ℕ) → tick ≤ s → IsOverloaded (jobs_of ps) s end → ⊥) → (s : ℕ) → from < s
     → IsOverloaded (jobs_of ps) s end → ⊥
@@ -238,10 +238,10 @@ later_begin ps a b m is one other = elim (cases_lt a b) [
 
 -- no window of one more piece begins between the later of two begins and the tick
 pub no_begin_next : (ps : List Piece) (i a b m tick : ℕ) (p q : Piece) → i < length ps → m ≡ max a b
-    → NoBegin ps i a tick
+    → NoWindowBegins ps i a tick
     → ((k : ℕ) → b < k * (get_or ps i p).period + (get_or ps i q).from
     → tick ≤ k * (get_or ps i p).period + (get_or ps i q).from)
-    → NoBegin ps (i + 1) m tick
+    → NoWindowBegins ps (i + 1) m tick
 no_begin_next ps i a b m tick p q lt is none last = λ j d low k after. elim (cases_eq j i) [
   | inr other ↦ none j d (omega (arith, low, other)) k (omega (arith, is, after))
   | inl same ↦

@@ -10,7 +10,7 @@ use Rattle.tab_core.specs.declared.TheConstants.{ROUND}
 use Rattle.tab_core.specs.declared.piece.Piece.{Piece}
 use Rattle.table_form.specs.Planning.Jobs.{Job, job_of, subtask_of, jobs_of}
 use Rattle.table_form.specs.Planning.EdfRow.{is_run_of, is_same_job, edf_cells, owner_of}
-use Rattle.edf_table.specs.Inside.Progress.{IsCounted, MetBefore, IsMostUrgent, ServedBelow, cell, had, window_no, is_ready}
+use Rattle.edf_table.specs.Inside.Progress.{AreJobsCounted, MetBefore, IsMostUrgent, ServedBelow, cell, had, window_no, is_ready}
 use Rattle.table_form.specs.Planning.Windows.{DistinctVcpus}
 use Rattle.edf_table.proofs.Counts.{had-suc, had-zero, had_le_had}
 use Rattle.edf_table.proofs.Pieces.{job_among, job_place, same_multiple, no_jobs, none_of_none}
@@ -29,7 +29,7 @@ had_same : (js : List Job) (j : Job) (tick : ℕ) (c : Option Job) → cell js t
 had_same js j tick c at run = let more = had_more js j tick c false at run in omega arith
 
 -- nothing was given yet
-pub counted_start : (ps : List Piece) (n : ℕ) → length ps ≤ n → IsCounted ps (replicate n 0) 0
+pub counted_start : (ps : List Piece) (n : ℕ) → length ps ≤ n → AreJobsCounted ps (replicate n 0) 0
 counted_start ps n enough =
     let zeros : List ℕ = replicate n 0 in
     record {
@@ -48,8 +48,8 @@ counted_start ps n enough =
     }
 
 -- a tick that goes to nobody
-pub counted_idle : (ps : List Piece) (gs : List ℕ) (tick : ℕ) → IsCounted ps gs tick
-    → cell (jobs_of ps) tick ≡ None → IsCounted ps gs (tick + 1)
+pub counted_idle : (ps : List Piece) (gs : List ℕ) (tick : ℕ) → AreJobsCounted ps gs tick
+    → cell (jobs_of ps) tick ≡ None → AreJobsCounted ps gs (tick + 1)
 counted_idle ps gs tick counted idle = record {
   enough = counted.enough;
   small = λ i. omega (arith, counted.small i);
@@ -82,7 +82,7 @@ min_same cost g k w ne low high = elim (cases_lt k w) [
 ]
 
 -- the windows before this one are fully served
-served_before : (ps : List Piece) (gs : List ℕ) (tick i : ℕ) (d : Piece) → IsCounted ps gs tick
+served_before : (ps : List Piece) (gs : List ℕ) (tick i : ℕ) (d : Piece) → AreJobsCounted ps gs tick
     → MetBefore (jobs_of ps) (tick + 1) → tick < ROUND → i < length ps →
     (w : ℕ) → w < ROUND / (get_or ps i d).period → (get_or ps i d).from ≤ tick
     → w ≤ window_no (get_or ps i d) tick → w * (get_or ps i d).cost ≤ get_or gs i 0
@@ -110,7 +110,7 @@ one_more gs i = set gs i (get_or gs i 0 + 1)
 
 -- what the counts say of the piece that has the tick
 each_of_run : (ps : List Piece) (gs : List ℕ) (tick i : ℕ) (d : Piece) → DistinctVcpus ps
-    → IsCounted ps gs tick → MetBefore (jobs_of ps) (tick + 1) → tick < ROUND →
+    → AreJobsCounted ps gs tick → MetBefore (jobs_of ps) (tick + 1) → tick < ROUND →
     IsMostUrgent ps gs tick (length ps) i → (k : ℕ) →
     had (jobs_of ps) (job_of (subtask_of (get_or ps i d)) k) (tick + 1)
     ≡ min (get_or ps i d).cost (get_or gs i 0 + 1 - k * (get_or ps i d).cost)
@@ -142,8 +142,8 @@ each_of_run ps gs tick i d apart counted met lt urgent k =
 
 -- a tick that goes to the most urgent piece
 pub counted_run : (ps : List Piece) (gs : List ℕ) (tick i : ℕ) → DistinctVcpus ps
-    → IsCounted ps gs tick → MetBefore (jobs_of ps) (tick + 1) → tick < ROUND →
-    IsMostUrgent ps gs tick (length ps) i → IsCounted ps (one_more gs i) (tick + 1)
+    → AreJobsCounted ps gs tick → MetBefore (jobs_of ps) (tick + 1) → tick < ROUND →
+    IsMostUrgent ps gs tick (length ps) i → AreJobsCounted ps (one_more gs i) (tick + 1)
 counted_run ps gs tick i apart counted met lt urgent = record {
   enough = omega (arith, length-set gs i (get_or gs i 0 + 1), counted.enough);
   small = λ k. elim (cases_eq k i) [
@@ -172,7 +172,7 @@ counted_run ps gs tick i apart counted met lt urgent = record {
 }
 
 -- where each window that ends at the tick has its cost, all is met one tick further
-pub met_more : (ps : List Piece) (gs : List ℕ) (tick : ℕ) (d : Piece) → IsCounted ps gs tick
+pub met_more : (ps : List Piece) (gs : List ℕ) (tick : ℕ) (d : Piece) → AreJobsCounted ps gs tick
     → MetBefore (jobs_of ps) tick → ServedBelow ps gs tick (length ps)
     → MetBefore (jobs_of ps) (tick + 1)
 met_more ps gs tick d counted met served j a lt = elim (cases_lt j.deadline tick) [
@@ -191,14 +191,14 @@ met_more ps gs tick d counted met served j a lt = elim (cases_lt j.deadline tick
 
 -- where each window that ends at the tick has its cost, all is met one tick further, with or
 -- without a piece
-pub met_more_any : (ps : List Piece) (gs : List ℕ) (tick : ℕ) → IsCounted ps gs tick
+pub met_more_any : (ps : List Piece) (gs : List ℕ) (tick : ℕ) → AreJobsCounted ps gs tick
     → MetBefore (jobs_of ps) tick → ServedBelow ps gs tick (length ps)
     → MetBefore (jobs_of ps) (tick + 1)
 met_more_any [] gs tick counted met served = λ j a lt. absurd (no_jobs j a)
 met_more_any (p ∷ ps) gs tick counted met served = met_more (p ∷ ps) gs tick p counted met served
 
 -- an idle tick gives nothing, with or without a piece
-pub idle_cell_any : (ps : List Piece) (gs : List ℕ) (tick : ℕ) → IsCounted ps gs tick
+pub idle_cell_any : (ps : List Piece) (gs : List ℕ) (tick : ℕ) → AreJobsCounted ps gs tick
     → MetBefore (jobs_of ps) (tick + 1) → tick < ROUND →
     ((i : ℕ) (d : Piece) → i < length ps → is_ready (get_or ps i d) (get_or gs i 0) tick ≡ false)
     → cell (jobs_of ps) tick ≡ None

@@ -7,7 +7,7 @@ use Rattle.tab_core.specs.declared.piece.Piece.{Piece}
 use Rattle.tab_core.proofs.Periods.{period_facts}
 use Rattle.table_form.specs.Planning.Jobs.{Job, job_of, subtask_of, jobs_of}
 use Rattle.table_form.specs.Planning.EdfRow.{is_pending, edf_cells}
-use Rattle.edf_table.specs.Inside.Progress.{Among, IsCounted, MetBefore, IsDueFirst, IsMostUrgent, cell, had, window_no, is_ready}
+use Rattle.edf_table.specs.Inside.Progress.{Among, AreJobsCounted, MetBefore, IsDueFirst, IsMostUrgent, cell, had, window_no, is_ready}
 use Rattle.table_form.specs.Planning.Windows.{DistinctVcpus}
 use Rattle.edf_table.proofs.Counts.{Distinct, distinct_same, had_le_had}
 use Rattle.edf_table.proofs.First.{IsFirst, NotAfter, first_pending_is}
@@ -77,7 +77,7 @@ urgent_new ps gs tick i b i-in ready urgent before = record {
 }
 
 -- the window that a ready piece is at is a pending job
-ready_pending : (ps : List Piece) (gs : List ℕ) (tick i : ℕ) (d : Piece) → IsCounted ps gs tick
+ready_pending : (ps : List Piece) (gs : List ℕ) (tick i : ℕ) (d : Piece) → AreJobsCounted ps gs tick
     → i < length ps →
     is_ready (get_or ps i d) (get_or gs i 0) tick ≡ true →
     is_pending (edf_cells (jobs_of ps) tick) tick
@@ -95,7 +95,7 @@ ready_pending ps gs tick i d counted lt ready =
 
 -- a pending job is the window that a ready piece is at: earlier ones are over and were met
 pending_ready : (ps : List Piece) (gs : List ℕ) (tick i : ℕ) (d : Piece) (k : ℕ)
-    → IsCounted ps gs tick → MetBefore (jobs_of ps) (tick + 1) →
+    → AreJobsCounted ps gs tick → MetBefore (jobs_of ps) (tick + 1) →
     i < length ps → k < ROUND / (get_or ps i d).period
     → is_pending (edf_cells (jobs_of ps) tick) tick (job_of (subtask_of (get_or ps i d)) k)
     ≡ true →
@@ -143,7 +143,7 @@ first_alone cells tick js (Some i) j d first a pending least =
 
 -- the most urgent piece's job gets the tick
 pub urgent_cell : (ps : List Piece) (gs : List ℕ) (tick i : ℕ) (d : Piece) → DistinctVcpus ps
-    → IsCounted ps gs tick → MetBefore (jobs_of ps) (tick + 1) → tick < ROUND →
+    → AreJobsCounted ps gs tick → MetBefore (jobs_of ps) (tick + 1) → tick < ROUND →
     IsMostUrgent ps gs tick (length ps) i
     → cell (jobs_of ps) tick
     ≡ Some (job_of (subtask_of (get_or ps i d)) (window_no (get_or ps i d) tick))
@@ -175,7 +175,7 @@ idle_first cells tick js None first unready = refl
 idle_first cells tick js (Some i) first unready = absurd (unready i first.0 first.1)
 
 -- where no piece is ready the tick is idle
-pub idle_cell : (ps : List Piece) (gs : List ℕ) (tick : ℕ) (d : Piece) → IsCounted ps gs tick
+pub idle_cell : (ps : List Piece) (gs : List ℕ) (tick : ℕ) (d : Piece) → AreJobsCounted ps gs tick
     → MetBefore (jobs_of ps) (tick + 1) → tick < ROUND →
     ((i : ℕ) → i < length ps → is_ready (get_or ps i d) (get_or gs i 0) tick ≡ false)
     → cell (jobs_of ps) tick ≡ None

@@ -14,6 +14,6 @@ AreUnsplit [] = Unit {0}
 AreUnsplit (p ∷ ps) = IsUnsplit p × AreUnsplit ps
 
 -- what the pieces take of a round, in ticks
-abbrev pub load : List Piece → ℕ
-load [] = 0
-load (p ∷ ps) = p.cost * (ROUND / p.period) + load ps
+abbrev pub load_of_pieces : List Piece → ℕ
+load_of_pieces [] = 0
+load_of_pieces (p ∷ ps) = p.cost * (ROUND / p.period) + load_of_pieces ps

@@ -14,14 +14,14 @@ core_of (p ∷ ps) = p.core
 
 -- the overloaded interval that is reported of a core's jobs: of those of least end the one of
 -- greatest begin, with what the jobs inside it cost
-pub record IsReported (core : ℕ) (jobs : List Job) (over : Over) : Type 0 where
+pub record IsReportedOverload (core : ℕ) (jobs : List Job) (over : Over) : Type 0 where
   pub on : over.core ≡ core
   pub first : IsFirstOverload jobs over.from over.to
   pub asked : over.demand ≡ demand_in jobs over.from over.to
 
 -- the overloaded interval that is reported of a core's pieces
 abbrev pub IsReportedOf : List Piece → Over → Type 0
-IsReportedOf pieces over = IsReported (core_of pieces) (jobs_of pieces) over
+IsReportedOf pieces over = IsReportedOverload (core_of pieces) (jobs_of pieces) over
 
 -- a miss names that interval; out of memory says nothing of the pieces
 abbrev pub IsEdfFault : List Piece → EdfFault → Type 0

@@ -1,12 +1,12 @@
 ghost use Rattle.std.specs.Prelude.{◌≡◌, ◌*◌, ◌/◌, ◌<◌, ◌≤◌, length, true};
 ghost use Rattle.tab_core.specs.declared.TheConstants.{ROUND};
-ghost use Rattle.edf_table.specs.Inside.Progress.{IsCommon};
+ghost use Rattle.edf_table.specs.Inside.Progress.{IsCommonMultiple};
 
 use tab_core::{Piece, ROUND};
 
 // Whether the period of each piece divides so many ticks.
 fn is_common(pieces: &[Piece], ticks: u32) -> bool
-    ensures { result ≡ true → IsCommon pieces.now (length pieces.now) ticks }
+    ensures { result ≡ true → IsCommonMultiple pieces.now (length pieces.now) ticks }
 {
     for i in 0..pieces.len() {
         if ticks % pieces[i].period != 0 {
@@ -22,11 +22,11 @@ fn without(pieces: &[Piece], ticks: u32, factor: u32) -> u32
     requires some { 0 < ticks }
     requires small { ticks ≤ ROUND }
     requires whole { ROUND / ticks * ticks ≡ ROUND }
-    requires common { IsCommon pieces.now (length pieces.now) ticks }
+    requires common { IsCommonMultiple pieces.now (length pieces.now) ticks }
     ensures some { 0 < result }
     ensures small { result ≤ ROUND }
     ensures whole { ROUND / result * result ≡ ROUND }
-    ensures common { IsCommon pieces.now (length pieces.now) result }
+    ensures common { IsCommonMultiple pieces.now (length pieces.now) result }
 {
     let mut left = ticks;
     while left % factor == 0 && is_common(pieces, left / factor) {
@@ -41,7 +41,7 @@ pub(crate) fn common_period(pieces: &[Piece]) -> u32
     ensures some { 0 < result }
     ensures small { result ≤ ROUND }
     ensures whole { ROUND / result * result ≡ ROUND }
-    ensures common { IsCommon pieces.now (length pieces.now) result }
+    ensures common { IsCommonMultiple pieces.now (length pieces.now) result }
 {
     if pieces.is_empty() {
         return ROUND;

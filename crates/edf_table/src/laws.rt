@@ -6,7 +6,7 @@ ghost use Rattle.tab_core.specs.Period.{IsPeriod};
 ghost use Rattle.table_form.specs.Planning.Demand.{Fits};
 ghost use Rattle.table_form.specs.Planning.Jobs.{Job, jobs_of};
 ghost use Rattle.edf_table.specs.Beside.{FitsBeside, tight};
-ghost use Rattle.edf_table.specs.Load.{AreUnsplit, load};
+ghost use Rattle.edf_table.specs.Load.{AreUnsplit, load_of_pieces};
 
 /// Where a tight piece fits, one that is a tick shorter fits. So bisection finds the longest.
 pub fn shorter_piece_fits()
@@ -18,5 +18,5 @@ pub fn shorter_piece_fits()
 
 /// Pieces whose windows are whole periods fit where they take no more than a round.
 pub fn unsplit_pieces_fit()
-    ensures { (pieces : List Piece) → AreUnsplit pieces → load pieces ≤ ROUND → Fits (jobs_of pieces) }
+    ensures { (pieces : List Piece) → AreUnsplit pieces → load_of_pieces pieces ≤ ROUND → Fits (jobs_of pieces) }
 {}

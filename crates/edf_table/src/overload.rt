@@ -2,7 +2,7 @@ ghost use Rattle.std.specs.Prelude.{◌≡◌, ◌⊎◌, ◌+◌, ◌<◌, ◌*
 ghost use Rattle.tab_core.specs.declared.TheConstants.{ROUND};
 ghost use Rattle.table_form.specs.Planning.Jobs.{first_jobs, jobs_of, subtask_of};
 ghost use Rattle.edf_table.specs.Overloads.{IsReportedOf};
-ghost use Rattle.edf_table.specs.Inside.Progress.{IsFirstEnd, NoBegin, SomeBegin, demand_from};
+ghost use Rattle.edf_table.specs.Inside.Progress.{IsFirstEnd, NoWindowBegins, SomeBegin, demand_from};
 ghost use Rattle.table_form.specs.Planning.Windows.{DistinctVcpus};
 
 use tab_core::{Over, Piece, ROUND};
@@ -44,7 +44,7 @@ fn last_begin(pieces: &[Piece], tick: u32) -> u32
     requires { 0 < tick }
     ensures earlier { result < tick }
     ensures one { (result ≡ 0) ⊎ SomeBegin pieces.now result }
-    ensures none { NoBegin pieces.now (length pieces.now) result tick }
+    ensures none { NoWindowBegins pieces.now (length pieces.now) result tick }
 {
     let mut begin = 0;
     for i in 0..pieces.len() {

@@ -2,7 +2,7 @@ ghost use Rattle.std.specs.Prelude.{◌≡◌, ℕ, ◌+◌, ◌-◌, ◌*◌, �
 ghost use Rattle.tab_core.specs.declared.TheConstants.{MAX_VCPUS, ROUND};
 ghost use Rattle.tab_core.specs.declared.piece.Piece.{Piece};
 ghost use Rattle.table_form.specs.Planning.Windows.{DistinctVcpus};
-ghost use Rattle.edf_table.specs.Inside.Progress.{ArePending, AreTimely, IsAdded, IsJobOf, job_at};
+ghost use Rattle.edf_table.specs.Inside.Progress.{ArePending, AreTimely, IsJobInserted, IsJobOf, job_at};
 
 use tab_core::{MAX_VCPUS, Piece, ROUND};
 
@@ -53,7 +53,7 @@ pub(crate) fn job_from(piece: &Piece, tick: u32) -> Pending
 pub(crate) fn add(jobs: &mut [Pending], count: usize, job: Pending)
     requires { count < length jobs.old }
     ensures a_place_each { length jobs.new ≡ length jobs.old }
-    ensures added { IsAdded jobs.old jobs.new count job }
+    ensures added { IsJobInserted jobs.old jobs.new count job }
 {
     let mut place = count;
     while place > 0 && jobs[place - 1].key < job.key {

@@ -1,7 +1,7 @@
 ghost use Rattle.std.specs.Prelude.{◌≡◌, ℕ, ◌+◌, ◌<◌, ◌≤◌, length, slice_index};
 ghost use Rattle.tab_core.specs.declared.TheConstants.{MAX_VCPUS, ROUND};
 ghost use Rattle.table_form.specs.Planning.Jobs.{jobs_of};
-ghost use Rattle.edf_table.specs.Inside.Progress.{AreKept, GoesTo, IsUnderWay};
+ghost use Rattle.edf_table.specs.Inside.Progress.{ArePiecesKept, GoesTo, IsUnderWay};
 ghost use Rattle.table_form.specs.Planning.Windows.{DistinctVcpus};
 
 use crate::pending::{Pending, add, give, job_from};
@@ -11,7 +11,7 @@ use tab_core::{MAX_VCPUS, Piece, ROUND, VcpuNo};
 pub(crate) fn put_first_begins(pieces: &[Piece], begins: &mut [u32])
     requires { length pieces.now ≤ length begins.old }
     ensures a_begin_each { length begins.new ≡ length begins.old }
-    ensures kept { AreKept pieces.now begins.new (length pieces.now) 0 0 }
+    ensures kept { ArePiecesKept pieces.now begins.new (length pieces.now) 0 0 }
 {
     for i in 0..pieces.len() {
         begins[i] = pieces[i].from;

@@ -17,10 +17,10 @@ use Rattle.worst_fit.specs.Placement.{IsPlacement}
 use Rattle.worst_fit.specs.declared.placed.Placed.{Placed}
 use Rattle.worst_fit.proofs.OnePlacement.{placement_unique}
 use Rattle.plan_make.specs.Planned.{IsFirstWithoutRoom}
-use Rattle.sizes_doc.specs.SizedHost.{IsHostOf, machine_vcpus, size_vcpus, sizes_vcpus, vcpu_of}
+use Rattle.sizes_doc.specs.SizedHost.{IsHostOfSizes, machine_vcpus, size_vcpus, sized_vcpu, sizes_vcpus}
 use Rattle.sizes_doc.specs.declared.size.Size.{Size}
 use Rattle.size_fit.specs.Fits.{HasNoPlan, NoPeriod, NoRoom}
-use Rattle.fleet_place.specs.Fits.{IsLike, IsRefused}
+use Rattle.fleet_place.specs.Fits.{IsHostRefused, IsLike}
 use Rattle.fleet_place.specs.Inside.Memory.{IsAlike}
 
 -- nothing is not a list with an element
@@ -54,7 +54,7 @@ accepted_by host tasks are room (NoPeriod vcpu first) = none_without_period host
 accepted_by host tasks are room (NoRoom vcpu rest over stuck) = room vcpu rest over stuck
 
 -- the host of sizes has their reservations
-pub like_own : (tick cores : ℕ) (sizes : List Size) (host : Host) → IsHostOf cores tick sizes host
+pub like_own : (tick cores : ℕ) (sizes : List Size) (host : Host) → IsHostOfSizes cores tick sizes host
     → IsLike tick cores sizes host
 like_own tick cores sizes host is = record {
   tick_ns = is.tick_ns;
@@ -72,7 +72,7 @@ abbrev asked : Reservation → ℕ → List (Option Reservation)
 asked r count = map (λ k. Some r) (range_with_len 0 count)
 
 asked_each : (size : Size) (machine : ℕ) (ks : List ℕ)
-    → map reservation_of (map (vcpu_of size machine) ks) ≡ map (λ k. Some size.reservation) ks
+    → map reservation_of (map (sized_vcpu size machine) ks) ≡ map (λ k. Some size.reservation) ks
 asked_each size machine [] = refl
 asked_each size machine (k ∷ ks) = ap (λ rs. Some size.reservation ∷ rs) (asked_each size machine ks)
 
@@ -108,7 +108,7 @@ asked_beside sizes size =
 
 -- a size is refused where one that is alike was refused beside the same sizes
 pub refused_alike : (tick cores : ℕ) (sizes : List Size) (one other : Size) → IsAlike one other
-    → IsRefused tick cores (sizes ++ one ∷ []) → IsRefused tick cores (sizes ++ other ∷ [])
+    → IsHostRefused tick cores (sizes ++ one ∷ []) → IsHostRefused tick cores (sizes ++ other ∷ [])
 refused_alike tick cores sizes one other alike was = record {
   host = was.host;
   is = record {

@@ -5,7 +5,7 @@ use Rattle.std.proofs.lemmas.Option.{slice_get_within}
 use Rattle.std.proofs.lemmas.Bool.{cases_lt}
 use Rattle.tab_core.proofs.Lists.{same}
 use Rattle.fleet_place.specs.Deals.{IsFullest, Joins, JoinsNone, JoinsNot}
-use Rattle.fleet_place.specs.Held.{Held, room_of}
+use Rattle.fleet_place.specs.Held.{Held, room_for_vms}
 use Rattle.fleet_place.specs.declared.vm.Vm.{Vm}
 
 -- of the hosts below a number this one is the fullest that the VM fits
@@ -15,9 +15,9 @@ pub record IsBest (tick : ℕ) (hosts : List Held) (vm : Vm) (count number : ℕ
   pub at : slice_get hosts number ≡ Some held
   pub fits : Joins tick held vm
   pub fullest : (k : ℕ) (other : Held) → k < count → slice_get hosts k ≡ Some other
-      → JoinsNot tick other vm ⊎ (room_of held ≤ room_of other)
+      → JoinsNot tick other vm ⊎ (room_for_vms held ≤ room_for_vms other)
   pub lowest : (k : ℕ) (other : Held) → k < number → slice_get hosts k ≡ Some other
-      → JoinsNot tick other vm ⊎ (room_of held < room_of other)
+      → JoinsNot tick other vm ⊎ (room_for_vms held < room_for_vms other)
 
 -- the best of the hosts below a number, or that the VM fits none of them
 abbrev pub BestSoFar : ℕ → List Held → Vm → ℕ → Option ℕ → Type 0
@@ -28,7 +28,7 @@ BestSoFar tick hosts vm count (Some number) = IsBest tick hosts vm count number
 -- the next host is no better
 pub not_better : (tick : ℕ) (hosts : List Held) (vm : Vm) (count number : ℕ) (next : Held)
     → IsBest tick hosts vm count number → slice_get hosts count ≡ Some next
-    → ((held : Held) → slice_get hosts number ≡ Some held → JoinsNot tick next vm ⊎ (room_of held ≤ room_of next))
+    → ((held : Held) → slice_get hosts number ≡ Some held → JoinsNot tick next vm ⊎ (room_for_vms held ≤ room_for_vms next))
     → IsBest tick hosts vm (count + 1) number
 not_better tick hosts vm count number next best at worse = record {
   held = best.held;
@@ -41,7 +41,7 @@ not_better tick hosts vm count number next best at worse = record {
         let k_is : k ≡ count = omega arith in
         let other_is : next ≡ other =
         same (slice_get hosts count) next other at (subst (λ n. slice_get hosts n ≡ Some other) k_is here) in
-        subst (λ (h : Held). JoinsNot tick h vm ⊎ (room_of best.held ≤ room_of h)) other_is (worse best.held best.at)
+        subst (λ (h : Held). JoinsNot tick h vm ⊎ (room_for_vms best.held ≤ room_for_vms h)) other_is (worse best.held best.at)
   ];
   lowest = best.lowest;
 }
@@ -49,12 +49,12 @@ not_better tick hosts vm count number next best at worse = record {
 -- the next host is better
 pub better : (tick : ℕ) (hosts : List Held) (vm : Vm) (count number : ℕ) (next : Held)
     → IsBest tick hosts vm count number → slice_get hosts count ≡ Some next → Joins tick next vm
-    → ((held : Held) → slice_get hosts number ≡ Some held → room_of next < room_of held)
+    → ((held : Held) → slice_get hosts number ≡ Some held → room_for_vms next < room_for_vms held)
     → IsBest tick hosts vm (count + 1) count
 better tick hosts vm count number next best at fits fuller =
-    let less : room_of next < room_of best.held = fuller best.held best.at in
+    let less : room_for_vms next < room_for_vms best.held = fuller best.held best.at in
     let lower : (k : ℕ) (other : Held) → k < count → slice_get hosts k ≡ Some other
-    → JoinsNot tick other vm ⊎ (room_of next < room_of other) =
+    → JoinsNot tick other vm ⊎ (room_for_vms next < room_for_vms other) =
     λ k other below here. elim (best.fullest k other below here) [
       | inl not ↦ inl not
       | inr more ↦ inr (omega arith)
@@ -70,7 +70,7 @@ better tick hosts vm count number next best at fits fuller =
             let k_is : k ≡ count = omega arith in
             let other_is : next ≡ other =
             same (slice_get hosts count) next other at (subst (λ n. slice_get hosts n ≡ Some other) k_is here) in
-            inr (subst (λ (h : Held). room_of next ≤ room_of h) other_is (omega arith))
+            inr (subst (λ (h : Held). room_for_vms next ≤ room_for_vms h) other_is (omega arith))
       ];
       lowest = lower;
     }
@@ -90,7 +90,7 @@ first_best tick hosts vm count next none at fits = record {
         let k_is : k ≡ count = omega arith in
         let other_is : next ≡ other =
         same (slice_get hosts count) next other at (subst (λ n. slice_get hosts n ≡ Some other) k_is here) in
-        inr (subst (λ (h : Held). room_of next ≤ room_of h) other_is (omega arith))
+        inr (subst (λ (h : Held). room_for_vms next ≤ room_for_vms h) other_is (omega arith))
   ];
   lowest = λ k other below here. inl (none k other below here);
 }
@@ -98,13 +98,13 @@ first_best tick hosts vm count next none at fits = record {
 -- the next host is taken
 pub taken : (tick : ℕ) (hosts : List Held) (vm : Vm) (count room : ℕ) (next : Held) (best : Option ℕ)
     → BestSoFar tick hosts vm count best → slice_get hosts count ≡ Some next → Joins tick next vm
-    → room ≡ room_of next
-    → IfSome best (λ number. (held : Held) → slice_get hosts number ≡ Some held → room < room_of held)
+    → room ≡ room_for_vms next
+    → IfSome best (λ number. (held : Held) → slice_get hosts number ≡ Some held → room < room_for_vms held)
     → BestSoFar tick hosts vm (count + 1) (Some count)
 taken tick hosts vm count room next None best at fits is fuller = first_best tick hosts vm count next best at fits
 taken tick hosts vm count room next (Some number) best at fits is fuller =
     better tick hosts vm count number next best at fits
-    (λ held there. subst (λ n. n < room_of held) is (fuller held there))
+    (λ held there. subst (λ n. n < room_for_vms held) is (fuller held there))
 
 -- the next host is left, since the VM doesn't fit it
 pub left_unfit : (tick : ℕ) (hosts : List Held) (vm : Vm) (count : ℕ) (next : Held) (best : Option ℕ)
@@ -123,16 +123,16 @@ left_unfit tick hosts vm count next (Some number) best at not =
 
 -- the next host is left, since it is no fuller
 pub left_emptier : (tick : ℕ) (hosts : List Held) (vm : Vm) (count room : ℕ) (next : Held) (best : Option ℕ)
-    → BestSoFar tick hosts vm count best → slice_get hosts count ≡ Some next → room ≡ room_of next
-    → IsSomeAnd best (λ number. (held : Held) × (slice_get hosts number ≡ Some held) × (room_of held ≤ room))
+    → BestSoFar tick hosts vm count best → slice_get hosts count ≡ Some next → room ≡ room_for_vms next
+    → IsSomeAnd best (λ number. (held : Held) × (slice_get hosts number ≡ Some held) × (room_for_vms held ≤ room))
     → BestSoFar tick hosts vm (count + 1) best
 left_emptier tick hosts vm count room next None best at is no_fuller = absurd no_fuller
 left_emptier tick hosts vm count room next (Some number) best at is no_fuller =
     not_better tick hosts vm count number next best at
     (λ held there.
     let one : no_fuller.0 ≡ held = same (slice_get hosts number) no_fuller.0 held no_fuller.1 there in
-    inr (subst (λ (h : Held). room_of h ≤ room_of next) one
-    (subst (λ n. room_of no_fuller.0 ≤ n) is no_fuller.2)))
+    inr (subst (λ (h : Held). room_for_vms h ≤ room_for_vms next) one
+    (subst (λ n. room_for_vms no_fuller.0 ≤ n) is no_fuller.2)))
 
 -- the best of all hosts is the fullest
 pub fullest_of : (tick : ℕ) (hosts : List Held) (vm : Vm) (count : ℕ) (best : Option ℕ) → length hosts ≤ count

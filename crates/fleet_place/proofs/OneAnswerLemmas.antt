@@ -11,7 +11,7 @@ use Rattle.period_choice.specs.Tasks.{AreTasksOf, IsTaskOf, LacksPeriod}
 use Rattle.worst_fit.specs.Placement.{IsPlacement}
 use Rattle.plan_make.specs.Unsplit.{StandUnsplit}
 use Rattle.size_fit.specs.Fits.{HasNoPlan, NoPeriod, NoRoom}
-use Rattle.fleet_place.specs.Fits.{Fits, FitsNot, Refused, TooMany, TooMuch}
+use Rattle.fleet_place.specs.Fits.{FitsHost, FitsNot, Refused, TooMany, TooMuch}
 use Rattle.fleet_place.specs.Held.{Held}
 use Rattle.fleet_place.specs.Stays.{IsStay}
 use Rattle.fleet_place.specs.declared.group.Group.{Group}
@@ -79,7 +79,7 @@ refused_too a b tick cores alike (NoRoom number rest over stuck) = NoRoom number
 }
 
 -- VMs that fit a host have no reason not to
-pub never_both : (tick cores : ℕ) (vms : List Vm) → Fits tick cores vms → FitsNot tick cores vms → ⊥
+pub never_both : (tick cores : ℕ) (vms : List Vm) → FitsHost tick cores vms → FitsNot tick cores vms → ⊥
 never_both tick cores vms fits (TooMuch much) = absurd (omega (arith, much, fits.load))
 never_both tick cores vms fits (TooMany many) = absurd (omega (arith, many, fits.count))
 never_both tick cores vms fits (Refused refused) =
@@ -89,7 +89,7 @@ never_both tick cores vms fits (Refused refused) =
 
 -- nobody moves whose host has room for all that were there
 pub nobody_moves : (tick : ℕ) (group : Group) (held : Held) (moved : List Vm) → IsStay tick group held moved
-    → Fits tick group.cores group.vms.items → moved ≡ []
+    → FitsHost tick group.cores group.vms.items → moved ≡ []
 nobody_moves tick group held [] is fits = refl
 nobody_moves tick group held (vm ∷ moved) is fits =
     let not : FitsNot tick held.cores (held.vms ++ vm ∷ moved) =

@@ -7,7 +7,7 @@ use Rattle.std.proofs.lemmas.List.{map-append, append_assoc}
 use Rattle.std.proofs.lemmas.List.Concat.{flat_map-cons}
 use Rattle.std.proofs.lemmas.List.Elements.{All-nil, All-push}
 use Rattle.std.proofs.lemmas.List.Sorted.{IsPermutation-append, IsPermutation-append_comm, IsPermutation-refl, IsPermutation-trans}
-use Rattle.fleet_place.specs.Fits.{Fits}
+use Rattle.fleet_place.specs.Fits.{FitsHost}
 use Rattle.fleet_place.specs.Held.{Held, all_held}
 use Rattle.fleet_place.specs.Stays.{NextHost, NoHost, Stay}
 use Rattle.fleet_place.specs.declared.group.Group.{Group}
@@ -52,7 +52,7 @@ stay_keeps tick _ _ _ (NextHost groups hosts moved group held mine before is) =
 
 -- the VMs of a host fit it, if it has any
 abbrev pub FitsItself : ℕ → Held → Type 0
-FitsItself tick held = 1 ≤ length held.vms → Fits tick held.cores held.vms
+FitsItself tick held = 1 ≤ length held.vms → FitsHost tick held.cores held.vms
 
 pub stay_fits : (tick : ℕ) (groups : List Group) (hosts : List Held) (moved : List Vm) → Stay tick groups hosts moved
     → All (FitsItself tick) hosts

@@ -9,8 +9,8 @@ use Rattle.tab_core.proofs.Lists.{get_or-replicate_same, same, set_here, set_oth
 use Rattle.tab_core.specs.declared.TheConstants.{MAX_VCPUS, ROUND}
 use Rattle.sizes_doc.specs.declared.size.Size.{Size}
 use Rattle.fleet_place.specs.Deals.{IsFullest, Joined, Joins, JoinsNone, JoinsNot, LeftOver, with_vm}
-use Rattle.fleet_place.specs.Fits.{Fits, FitsNot, IsRefused, Refused}
-use Rattle.fleet_place.specs.Held.{Held, count_of, load_of, sizes_in}
+use Rattle.fleet_place.specs.Fits.{FitsHost, FitsNot, IsHostRefused, Refused}
+use Rattle.fleet_place.specs.Held.{Held, load_of_vms, sizes_in, vcpu_count_of}
 use Rattle.fleet_place.specs.Inside.Memory.{IsAlike, IsRefusedBeside, IsTurn, KnowsRefusals}
 use Rattle.fleet_place.specs.Stays.{IsStay, NextHost, Stay}
 use Rattle.fleet_place.specs.declared.group.Group.{Group}
@@ -20,11 +20,11 @@ use Rattle.fleet_place.proofs.HeldLemmas.{count_push, load_push, sizes_push}
 
 -- a VM that fits is within the limits
 pub joins_much : (tick : ℕ) (held : Held) (vm : Vm) → Joins tick held vm
-    → load_of held.vms + vm.demand ≤ held.cores * ROUND
+    → load_of_vms held.vms + vm.demand ≤ held.cores * ROUND
 joins_much tick held vm fits = subst (λ n. n ≤ held.cores * ROUND) (load_push held.vms vm) fits.load
 
 pub joins_many : (tick : ℕ) (held : Held) (vm : Vm) → Joins tick held vm
-    → count_of held.vms + vm.size.machines * vm.size.vcpus ≤ MAX_VCPUS
+    → vcpu_count_of held.vms + vm.size.machines * vm.size.vcpus ≤ MAX_VCPUS
 joins_many tick held vm fits = subst (λ n. n ≤ MAX_VCPUS) (count_push held.vms vm) fits.count
 
 -- a host that takes a VM forgets what was refused there
@@ -76,7 +76,7 @@ pub known_again : (tick : ℕ) (held : Held) (vm : Vm) (refused : Option Size)
     → JoinsNot tick held vm
 known_again tick held vm None alike known = absurd alike
 known_again tick held vm (Some size) alike known =
-    Refused (subst (IsRefused tick held.cores) (sym (sizes_push held.vms vm))
+    Refused (subst (IsHostRefused tick held.cores) (sym (sizes_push held.vms vm))
     (refused_alike tick held.cores (sizes_in held.vms) size vm.size alike known))
 
 -- the next group's host
@@ -105,7 +105,7 @@ take_parts xs front more rest is =
 -- the longest prefix that fits stays
 pub stays_first : (tick : ℕ) (group : Group) (held : Held) (vms : List Vm) (count : ℕ)
     → group.vms.items ≡ vms → count ≤ length vms → held ≡ record { cores = group.cores; vms = take count vms }
-    → (1 ≤ count → Fits tick group.cores (take count vms))
+    → (1 ≤ count → FitsHost tick group.cores (take count vms))
     → ((more : ℕ) → count < more → more ≤ length vms → FitsNot tick group.cores (take more vms))
     → IsStay tick group held (drop count vms)
 stays_first tick group held vms count own few is fits longest =

@@ -2,9 +2,9 @@
 -- Source: best-fit decreasing of D. S. Johnson, "Near-optimal bin packing algorithms", thesis, MIT, 1973, where the
 -- number of hosts is given, a VM that fits none is left over, and whether it fits the planner says.
 use Rattle.std.specs.Prelude.{◌≡◌, ℕ, ◌<◌, ◌≤◌, ◌⊎◌, List, [], ◌∷◌, ◌++◌, Some, slice_get, slice_set}
-use Rattle.fleet_place.specs.Fits.{Fits, FitsNot}
-use Rattle.fleet_place.specs.Held.{Held, room_of}
-use Rattle.fleet_place.specs.Order.{IsFallingOrder}
+use Rattle.fleet_place.specs.Fits.{FitsHost, FitsNot}
+use Rattle.fleet_place.specs.Held.{Held, room_for_vms}
+use Rattle.fleet_place.specs.Order.{IsFallingVmOrder}
 use Rattle.fleet_place.specs.Stays.{Stay}
 use Rattle.fleet_place.specs.declared.group.Group.{Group}
 use Rattle.fleet_place.specs.declared.vm.Vm.{Vm}
@@ -15,7 +15,7 @@ with_vm held vm = record { cores = held.cores; vms = held.vms ++ vm ∷ [] }
 
 -- the VM fits the host beside the VMs that are there
 abbrev pub Joins : ℕ → Held → Vm → Type 0
-Joins tick held vm = Fits tick held.cores (held.vms ++ vm ∷ [])
+Joins tick held vm = FitsHost tick held.cores (held.vms ++ vm ∷ [])
 
 -- the VM doesn't fit the host beside the VMs that are there
 abbrev pub JoinsNot : ℕ → Held → Vm → Type 0
@@ -26,9 +26,9 @@ pub record IsFullest (tick : ℕ) (hosts : List Held) (vm : Vm) (number : ℕ) (
   pub at : slice_get hosts number ≡ Some held
   pub fits : Joins tick held vm
   pub fullest : (k : ℕ) (other : Held) → slice_get hosts k ≡ Some other
-      → JoinsNot tick other vm ⊎ (room_of held ≤ room_of other)
+      → JoinsNot tick other vm ⊎ (room_for_vms held ≤ room_for_vms other)
   pub lowest : (k : ℕ) (other : Held) → k < number → slice_get hosts k ≡ Some other
-      → JoinsNot tick other vm ⊎ (room_of held < room_of other)
+      → JoinsNot tick other vm ⊎ (room_for_vms held < room_for_vms other)
 
 -- the VM fits no host
 abbrev pub JoinsNone : ℕ → List Held → Vm → Type 0
@@ -51,5 +51,5 @@ pub record IsPlacing (tick : ℕ) (groups : List Group) (others : List Vm) (host
   pub moved : List Vm
   pub stay : Stay tick groups start moved
   pub order : List Vm
-  pub falling : IsFallingOrder (moved ++ others) order
+  pub falling : IsFallingVmOrder (moved ++ others) order
   pub deal : Deal tick start order hosts left

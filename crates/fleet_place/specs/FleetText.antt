@@ -4,9 +4,9 @@ use Rattle.std.specs.Prelude.{ℕ, ◌-◌, ◌*◌, ◌++◌, List, [], codes, 
 use Rattle.std.specs.List.{sum_by}
 use Rattle.tab_core.specs.declared.TheConstants.{ROUND}
 use Rattle.tab_words.specs.Texts.{texts_below}
-use Rattle.table_cells.specs.Cells.{count_cell, percent_cell}
+use Rattle.view_cells.specs.Cells.{count_cell, percent_cell}
 use Rattle.size_fit.specs.FitText.{ppm_of}
-use Rattle.fleet_place.specs.Held.{Held, count_of, load_of}
+use Rattle.fleet_place.specs.Held.{Held, load_of_vms, vcpu_count_of}
 use Rattle.fleet_place.specs.declared.vm.Vm.{Vm}
 
 -- ---- lines
@@ -46,12 +46,12 @@ full_cells cores vms vcpus load = count_cell 7 cores ++ (count_cell 6 vms ++ (co
 -- the summary's row of the host of this number: its cores, VMs and vCPUs, its load and what is left
 abbrev pub host_row : List Held → ℕ → List ℕ
 host_row hosts host = let held = get_or hosts host no_host in
-    count_cell 4 host ++ full_cells held.cores (length held.vms) (count_of held.vms) (load_of held.vms)
+    count_cell 4 host ++ full_cells held.cores (length held.vms) (vcpu_count_of held.vms) (load_of_vms held.vms)
 
 -- the summary's row of all hosts together
 abbrev pub fleet_row : List Held → List ℕ
 fleet_row hosts = codes " all" ++ full_cells (sum_by (λ held. held.cores) hosts) (sum_by (λ held. length held.vms) hosts)
-    (sum_by (λ held. count_of held.vms) hosts) (sum_by (λ held. load_of held.vms) hosts)
+    (sum_by (λ held. vcpu_count_of held.vms) hosts) (sum_by (λ held. load_of_vms held.vms) hosts)
 
 -- the summary of a placing: a row for each host, by number, and one for all together
 abbrev pub summary_text : List Held → List ℕ

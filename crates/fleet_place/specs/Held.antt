@@ -16,16 +16,16 @@ abbrev pub sizes_in : List Vm → List Size
 sizes_in vms = map (λ vm. vm.size) vms
 
 -- the ticks of a round that the VMs take together
-abbrev pub load_of : List Vm → ℕ
-load_of vms = sum_by (λ vm. vm.demand) vms
+abbrev pub load_of_vms : List Vm → ℕ
+load_of_vms vms = sum_by (λ vm. vm.demand) vms
 
 -- how many vCPUs the VMs have together
-abbrev pub count_of : List Vm → ℕ
-count_of vms = sum_by (λ vm. vm.size.machines * vm.size.vcpus) vms
+abbrev pub vcpu_count_of : List Vm → ℕ
+vcpu_count_of vms = sum_by (λ vm. vm.size.machines * vm.size.vcpus) vms
 
 -- the ticks of a round that a host's VMs leave
-abbrev pub room_of : Held → ℕ
-room_of held = held.cores * ROUND - load_of held.vms
+abbrev pub room_for_vms : Held → ℕ
+room_for_vms held = held.cores * ROUND - load_of_vms held.vms
 
 -- the VMs of all hosts, host by host
 abbrev pub all_held : List Held → List Vm

@@ -8,7 +8,7 @@ pub record IsNoLater (first second : Vm) : Type 0 where
   pub ties : first.demand ≡ second.demand → first.number ≤ second.number
 
 -- the VMs in their order: by falling demand, ties to the lower number
-pub record IsFallingOrder (vms order : List Vm) : Type 0 where
+pub record IsFallingVmOrder (vms order : List Vm) : Type 0 where
   pub same : IsPermutation vms order
   pub next : (k : ℕ) (first second : Vm) → slice_get order k ≡ Some first → slice_get order (k + 1) ≡ Some second
       → IsNoLater first second

@@ -1,7 +1,7 @@
 -- Which VMs stay on the host on which they were.
 -- Source: the rule is this project's own. A VM that moves is copied over the network, so few are to move.
 use Rattle.std.specs.Prelude.{◌≡◌, ℕ, ◌≤◌, List, [], ◌∷◌, ◌++◌, length}
-use Rattle.fleet_place.specs.Fits.{Fits, FitsNot}
+use Rattle.fleet_place.specs.Fits.{FitsHost, FitsNot}
 use Rattle.fleet_place.specs.Held.{Held}
 use Rattle.fleet_place.specs.declared.group.Group.{Group}
 use Rattle.fleet_place.specs.declared.vm.Vm.{Vm}
@@ -10,7 +10,7 @@ use Rattle.fleet_place.specs.declared.vm.Vm.{Vm}
 pub record IsStay (tick : ℕ) (group : Group) (held : Held) (moved : List Vm) : Type 0 where
   pub cores_are : held.cores ≡ group.cores
   pub parts : group.vms.items ≡ held.vms ++ moved
-  pub fits : 1 ≤ length held.vms → Fits tick held.cores held.vms
+  pub fits : 1 ≤ length held.vms → FitsHost tick held.cores held.vms
   pub longest : (more rest : List Vm) → moved ≡ more ++ rest → 1 ≤ length more
       → FitsNot tick held.cores (held.vms ++ more)
 

@@ -1,10 +1,10 @@
 ghost use Rattle.std.specs.Prelude.{◌≡◌, ℕ, ◌≤◌, ◌++◌, ◌⊎◌, false, true, [], ◌∷◌, IfErr, IfOk, List};
 ghost use Rattle.tab_core.specs.declared.TheConstants.{MAX_CORES, MAX_TICK_NS, MIN_TICK_NS};
-ghost use Rattle.sizes_doc.specs.SizedHost.{HasFault};
+ghost use Rattle.sizes_doc.specs.SizedHost.{HasSizesFault};
 ghost use Rattle.sizes_doc.specs.declared.fault.SizesFault.{SizesFault as SizesFaultValue};
 ghost use Rattle.sizes_doc.specs.declared.size.Size.{Size as SizeValue};
 ghost use Rattle.size_fit.specs.Fits.{HasNoPlan};
-ghost use Rattle.fleet_place.specs.Fits.{IsAccepted, IsRefused};
+ghost use Rattle.fleet_place.specs.Fits.{IsAccepted, IsHostRefused};
 ghost use Rattle.fleet_place.specs.Held.{sizes_in};
 ghost use Rattle.fleet_place.specs.declared.fault.PlaceFault.TheVariants.{NoHost, NoMemory};
 
@@ -31,9 +31,9 @@ pub(crate) fn is_accepted<R: Threads + Sync>(
     requires least_tick { MIN_TICK_NS ≤ tick_ns }
     requires most_tick { tick_ns ≤ MAX_TICK_NS }
     ensures accepted { IfOk result (λ is. is ≡ true → IsAccepted tick_ns cores sizes.now) }
-    ensures refused { IfOk result (λ is. is ≡ false → IsRefused tick_ns cores sizes.now) }
+    ensures refused { IfOk result (λ is. is ≡ false → IsHostRefused tick_ns cores sizes.now) }
     ensures fault { IfErr result (λ fault. (fault ≡ NoMemory)
-        ⊎ ((why : SizesFaultValue) × (fault ≡ NoHost why) × HasFault sizes.now why)) }
+        ⊎ ((why : SizesFaultValue) × (fault ≡ NoHost why) × HasSizesFault sizes.now why)) }
 {
     match host_of_sizes(alloc, cores, tick_ns, sizes) {
         Ok(host) => Ok(has_plan(rt, alloc, &host)?),

@@ -1,7 +1,7 @@
 ghost use Rattle.std.specs.Prelude.{◌≡◌, ◌+◌, ◌*◌, ◌<◌, ◌≤◌, None, IfNone, IfOk, IfSome, IsSomeAnd, OnOk, Some, false, true, length, replicate, slice_get, slice_set};
 ghost use Rattle.tab_core.specs.declared.TheConstants.{MAX_TICK_NS, MAX_VCPUS, MIN_TICK_NS, ROUND};
 ghost use Rattle.fleet_place.specs.Deals.{Deal, IsFullest, Joins, JoinsNone, JoinsNot, with_vm};
-ghost use Rattle.fleet_place.specs.Held.{Held, count_of, load_of, room_of};
+ghost use Rattle.fleet_place.specs.Held.{Held, load_of_vms, room_for_vms, vcpu_count_of};
 ghost use Rattle.fleet_place.specs.Inside.Memory.{IsAlike, IsRefusedBeside, IsTurn, KnowsRefusals};
 
 use crate::ask::{is_accepted, sizes_with};
@@ -91,9 +91,9 @@ fn push_to<'a>(
     requires sizes { length refused.old ≡ length hosts.old }
     requires here { number < length hosts.old }
     requires much { (held : Held) → slice_get hosts.old number ≡ Some held
-        → load_of held.vms + vm.now.demand ≤ held.cores * ROUND }
+        → load_of_vms held.vms + vm.now.demand ≤ held.cores * ROUND }
     requires many { (held : Held) → slice_get hosts.old number ≡ Some held
-        → count_of held.vms + vm.now.size.machines * vm.now.size.vcpus ≤ MAX_VCPUS }
+        → vcpu_count_of held.vms + vm.now.size.machines * vm.now.size.vcpus ≤ MAX_VCPUS }
     ensures hosts { OnOk result ((held : Held) → slice_get hosts.old number ≡ Some held
         → hosts.new ≡ slice_set hosts.old number (with_vm held vm.now)) }
     ensures refused { OnOk result (refused.new ≡ slice_set refused.old number None) }
@@ -137,9 +137,9 @@ fn fullest<'a, R: Threads + Sync>(
 fn is_fuller(hosts: &[FleetHost<'_>], best: Option<usize>, room: u64) -> bool
     requires { IfSome best (λ number. number < length hosts.now) }
     ensures fuller { result ≡ true → IfSome best (λ number. (held : Held) → slice_get hosts.now number ≡ Some held
-        → room < room_of held) }
+        → room < room_for_vms held) }
     ensures not { result ≡ false → IsSomeAnd best (λ number. (held : Held) × (slice_get hosts.now number ≡ Some held)
-        × (room_of held ≤ room)) }
+        × (room_for_vms held ≤ room)) }
 {
     match best {
         Some(number) => room < hosts[number].room(),

@@ -1,7 +1,7 @@
 ghost use Rattle.std.specs.Prelude.{◌≡◌, ◌≤◌, ◌++◌, All, IfOk, IsPermutation, flat_map, length, map};
 ghost use Rattle.tab_core.specs.declared.TheConstants.{MAX_TICK_NS, MIN_TICK_NS};
 ghost use Rattle.fleet_place.specs.Deals.{IsPlacing};
-ghost use Rattle.fleet_place.specs.Fits.{Fits};
+ghost use Rattle.fleet_place.specs.Fits.{FitsHost};
 ghost use Rattle.fleet_place.specs.Held.{all_held};
 
 use crate::deal::deal;
@@ -44,7 +44,7 @@ pub fn place<'a, R: Threads + Sync>(
     ensures cores { IfOk result (λ placing. map (λ host. host.cores) placing.hosts.items ≡ map (λ group. group.cores) groups.now) }
     ensures each { IfOk result (λ placing. IsPermutation (flat_map (λ group. group.vms.items) groups.now ++ others.now)
         (all_held placing.hosts.items ++ placing.left.items)) }
-    ensures fits { IfOk result (λ placing. All (λ host. 1 ≤ length host.vms → Fits tick_ns host.cores host.vms)
+    ensures fits { IfOk result (λ placing. All (λ host. 1 ≤ length host.vms → FitsHost tick_ns host.cores host.vms)
         placing.hosts.items) }
 {
     let mut pool = Vec::new(alloc);

@@ -1,7 +1,7 @@
 ghost use Rattle.std.specs.Prelude.{◌≡◌, ◌+◌, ◌*◌, ◌<◌, ◌≤◌, ◌⊎◌, [], IsTrue, OnOk};
 ghost use Rattle.tab_core.specs.declared.TheConstants.{MAX_CORES, MAX_VCPUS, ROUND};
 ghost use Rattle.fleet_place.specs.Deals.{with_vm};
-ghost use Rattle.fleet_place.specs.Held.{count_of, load_of, room_of};
+ghost use Rattle.fleet_place.specs.Held.{load_of_vms, room_for_vms, vcpu_count_of};
 
 use crate::vm::Vm;
 use std::alloc::Global;
@@ -20,14 +20,14 @@ pub struct FleetHost<'a> {
 impl<'a> Model for FleetHost<'a> {
     ghost use Rattle.std.specs.Prelude.{◌≡◌, ◌*◌, ◌≤◌};
     ghost use Rattle.tab_core.specs.declared.TheConstants.{MAX_CORES, MAX_VCPUS, ROUND};
-    ghost use Rattle.fleet_place.specs.Held.{Held, count_of, load_of};
+    ghost use Rattle.fleet_place.specs.Held.{Held, load_of_vms, vcpu_count_of};
 
     ghost Value = { Held };
 
     ghost view = { λ host. record { cores = host.cores; vms = host.vms.items } };
 
-    ghost invariant = { λ host. (1 ≤ host.cores) × (host.cores ≤ MAX_CORES) × (host.load ≡ load_of host.vms.items)
-        × (host.vcpus ≡ count_of host.vms.items) × (host.load ≤ host.cores * ROUND) × (host.vcpus ≤ MAX_VCPUS) };
+    ghost invariant = { λ host. (1 ≤ host.cores) × (host.cores ≤ MAX_CORES) × (host.load ≡ load_of_vms host.vms.items)
+        × (host.vcpus ≡ vcpu_count_of host.vms.items) × (host.load ≤ host.cores * ROUND) × (host.vcpus ≤ MAX_VCPUS) };
 }
 
 impl<'a> FleetHost<'a> {
@@ -63,7 +63,7 @@ impl<'a> FleetHost<'a> {
 
     /// The ticks of a round that its VMs take.
     pub fn load(&self) -> u64
-        ensures value { result ≡ load_of self.now.vms }
+        ensures value { result ≡ load_of_vms self.now.vms }
         ensures within { result ≤ self.now.cores * ROUND }
     {
         self.load
@@ -71,7 +71,7 @@ impl<'a> FleetHost<'a> {
 
     /// How many vCPUs the host's VMs have together.
     pub fn vcpus(&self) -> u32
-        ensures value { result ≡ count_of self.now.vms }
+        ensures value { result ≡ vcpu_count_of self.now.vms }
         ensures few { result ≤ MAX_VCPUS }
     {
         self.vcpus
@@ -79,7 +79,7 @@ impl<'a> FleetHost<'a> {
 
     /// The ticks of a round that its VMs leave.
     pub fn room(&self) -> u64
-        ensures { result ≡ room_of self.now }
+        ensures { result ≡ room_for_vms self.now }
     {
         u64::from(self.cores) * u64::from(ROUND) - self.load
     }
@@ -88,10 +88,10 @@ impl<'a> FleetHost<'a> {
     /// round than the cores have, and have no more than 256 vCPUs. Whether the planner accepts it is
     /// another question.
     pub fn has_space(&self, vm: &Vm<'_>) -> bool
-        ensures much { IsTrue result → load_of self.now.vms + vm.now.demand ≤ self.now.cores * ROUND }
-        ensures many { IsTrue result → count_of self.now.vms + vm.now.size.machines * vm.now.size.vcpus ≤ MAX_VCPUS }
-        ensures none { ¬ (IsTrue result) → (self.now.cores * ROUND < load_of self.now.vms + vm.now.demand)
-            ⊎ (MAX_VCPUS < count_of self.now.vms + vm.now.size.machines * vm.now.size.vcpus) }
+        ensures much { IsTrue result → load_of_vms self.now.vms + vm.now.demand ≤ self.now.cores * ROUND }
+        ensures many { IsTrue result → vcpu_count_of self.now.vms + vm.now.size.machines * vm.now.size.vcpus ≤ MAX_VCPUS }
+        ensures none { ¬ (IsTrue result) → (self.now.cores * ROUND < load_of_vms self.now.vms + vm.now.demand)
+            ⊎ (MAX_VCPUS < vcpu_count_of self.now.vms + vm.now.size.machines * vm.now.size.vcpus) }
     {
         let fits = self.load + vm.demand <= u64::from(self.cores) * u64::from(ROUND);
         fits && self.vcpus + vm.size.machines * vm.size.vcpus <= MAX_VCPUS
@@ -100,8 +100,8 @@ impl<'a> FleetHost<'a> {
     /// Adds a VM that is within the host's limits, as `has_space` says. Fails only when memory runs
     /// out.
     pub fn push(&mut self, vm: &Vm<'a>) -> Result<(), NoMemory>
-        requires much { load_of self.old.vms + vm.now.demand ≤ self.old.cores * ROUND }
-        requires many { count_of self.old.vms + vm.now.size.machines * vm.now.size.vcpus ≤ MAX_VCPUS }
+        requires much { load_of_vms self.old.vms + vm.now.demand ≤ self.old.cores * ROUND }
+        requires many { vcpu_count_of self.old.vms + vm.now.size.machines * vm.now.size.vcpus ≤ MAX_VCPUS }
         ensures { OnOk result (self.new ≡ with_vm self.old vm.now) }
     {
         self.vms.push(*vm)?;

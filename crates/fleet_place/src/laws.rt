@@ -1,5 +1,5 @@
 ghost use Rattle.std.specs.Prelude.{◌≡◌, ℕ, [], List};
-ghost use Rattle.fleet_place.specs.Fits.{Fits, FitsNot};
+ghost use Rattle.fleet_place.specs.Fits.{FitsHost, FitsNot};
 ghost use Rattle.fleet_place.specs.Held.{Held};
 ghost use Rattle.fleet_place.specs.Stays.{IsStay};
 ghost use Rattle.fleet_place.specs.declared.group.Group.{Group as GroupValue};
@@ -7,11 +7,11 @@ ghost use Rattle.fleet_place.specs.declared.vm.Vm.{Vm as VmValue};
 
 /// VMs that fit a host have no reason not to fit it.
 pub fn fit_or_not()
-    ensures { (tick cores : ℕ) (vms : List VmValue) → Fits tick cores vms → FitsNot tick cores vms → ⊥ }
+    ensures { (tick cores : ℕ) (vms : List VmValue) → FitsHost tick cores vms → FitsNot tick cores vms → ⊥ }
 {}
 
 /// Nobody moves whose host has room for all that were there.
 pub fn a_host_with_room_keeps_all()
     ensures { (tick : ℕ) (group : GroupValue) (held : Held) (moved : List VmValue) → IsStay tick group held moved
-        → Fits tick group.cores group.vms.items → moved ≡ [] }
+        → FitsHost tick group.cores group.vms.items → moved ≡ [] }
 {}

@@ -1,7 +1,7 @@
 ghost use Rattle.std.specs.Prelude.{◌≡◌, ℕ, ◌<◌, ◌≤◌, ◌++◌, ◌*◌, ◌^◌, IfErr, IfOk, IsTrue, List, MatchOption, false, true, length, take};
 ghost use Rattle.tab_core.specs.declared.TheConstants.{MAX_CORES, MAX_TICK_NS, MAX_VCPUS, MIN_TICK_NS, ROUND};
-ghost use Rattle.fleet_place.specs.Fits.{Fits, FitsNot};
-ghost use Rattle.fleet_place.specs.Held.{count_of, load_of};
+ghost use Rattle.fleet_place.specs.Fits.{FitsHost, FitsNot};
+ghost use Rattle.fleet_place.specs.Held.{load_of_vms, vcpu_count_of};
 ghost use Rattle.fleet_place.specs.Stays.{IsStay};
 ghost use Rattle.fleet_place.specs.declared.vm.Vm.{Vm as VmValue};
 
@@ -38,8 +38,8 @@ pub(crate) fn stay<'a, R: Threads + Sync>(
 fn host_with<'a>(alloc: Global, cores: u32, vms: &[Vm<'a>]) -> Result<FleetHost<'a>, NoMemory>
     requires some_core { 1 ≤ cores }
     requires few_cores { cores ≤ MAX_CORES }
-    requires much { load_of vms.now ≤ cores * ROUND }
-    requires many { count_of vms.now ≤ MAX_VCPUS }
+    requires much { load_of_vms vms.now ≤ cores * ROUND }
+    requires many { vcpu_count_of vms.now ≤ MAX_VCPUS }
     ensures { IfOk result (λ host. host ≡ record { cores = cores; vms = vms.now }) }
 {
     let mut host = FleetHost::empty(alloc, cores);
@@ -62,7 +62,7 @@ fn longest<R: Threads + Sync>(
     requires least_tick { MIN_TICK_NS ≤ tick_ns }
     requires most_tick { tick_ns ≤ MAX_TICK_NS }
     ensures within { IfOk result (λ count. count ≤ length vms.now) }
-    ensures fits { IfOk result (λ count. 1 ≤ count → Fits tick_ns cores (take count vms.now)) }
+    ensures fits { IfOk result (λ count. 1 ≤ count → FitsHost tick_ns cores (take count vms.now)) }
     ensures longest { IfOk result (λ count. (more : ℕ) → count < more → more ≤ length vms.now
         → FitsNot tick_ns cores (take more vms.now)) }
 {
@@ -88,7 +88,7 @@ fn is_fit<R: Threads + Sync>(
     requires few_cores { cores ≤ MAX_CORES }
     requires least_tick { MIN_TICK_NS ≤ tick_ns }
     requires most_tick { tick_ns ≤ MAX_TICK_NS }
-    ensures fits { IfOk result (λ is. is ≡ true → Fits tick_ns cores vms.now) }
+    ensures fits { IfOk result (λ is. is ≡ true → FitsHost tick_ns cores vms.now) }
     ensures fits_not { IfOk result (λ is. is ≡ false → FitsNot tick_ns cores vms.now) }
 {
     if !takes_within(vms, u64::from(cores) * u64::from(ROUND)) || !counts_within(vms) {
@@ -101,8 +101,8 @@ fn is_fit<R: Threads + Sync>(
 // Whether the VMs take at most so many ticks of a round.
 fn takes_within(vms: &[Vm<'_>], ticks: u64) -> bool
     requires { ticks < 2 ^ 40 }
-    ensures yes { result ≡ true → load_of vms.now ≤ ticks }
-    ensures no { result ≡ false → ticks < load_of vms.now }
+    ensures yes { result ≡ true → load_of_vms vms.now ≤ ticks }
+    ensures no { result ≡ false → ticks < load_of_vms vms.now }
 {
     let mut load = 0;
     for vm in vms {
@@ -116,8 +116,8 @@ fn takes_within(vms: &[Vm<'_>], ticks: u64) -> bool
 
 // Whether they have at most as many vCPUs as a host may have.
 fn counts_within(vms: &[Vm<'_>]) -> bool
-    ensures yes { result ≡ true → count_of vms.now ≤ MAX_VCPUS }
-    ensures no { result ≡ false → MAX_VCPUS < count_of vms.now }
+    ensures yes { result ≡ true → vcpu_count_of vms.now ≤ MAX_VCPUS }
+    ensures no { result ≡ false → MAX_VCPUS < vcpu_count_of vms.now }
 {
     let mut count = 0;
     for vm in vms {

@@ -2,9 +2,9 @@ ghost use Rattle.std.specs.Prelude.{◌≡◌, ◌*◌, ◌<◌, ◌≤◌, ◌^
 ghost use Rattle.std.specs.List.{sum_by};
 ghost use Rattle.tab_io.specs.Sinks.{Writes};
 ghost use Rattle.tab_words.specs.Texts.{texts_below};
-ghost use Rattle.table_cells.specs.CellTexts.{cell_text};
+ghost use Rattle.view_cells.specs.CellTexts.{cell_text};
 ghost use Rattle.fleet_place.specs.FleetText.{fleet_row, full_cells, host_lines, host_row, left_line, placing_text, summary_text, vm_line};
-ghost use Rattle.fleet_place.specs.Held.{count_of, load_of};
+ghost use Rattle.fleet_place.specs.Held.{load_of_vms, vcpu_count_of};
 ghost use Rattle.size_fit.specs.FitText.{ppm_of};
 
 use crate::fleet_host::FleetHost;
@@ -12,7 +12,7 @@ use crate::vm::Vm;
 use tab_core::{ROUND, WHOLE_PPM};
 use tab_io::{Sink, WriteFault, write_all};
 use tab_words::{TextPiece, put_pieces};
-use table_cells::{Cell, put_cells};
+use view_cells::{Cell, put_cells};
 
 /// Writes a line for each VM: `host K vm NAME` for those on hosts, host by host, and `left vm NAME` for those that are
 /// left over. There are fewer than 2^32 hosts.

@@ -2,7 +2,7 @@
 use Rattle.std.proofs.Common.{◌≡◌, ℕ, ◌+◌, ◌*◌, ◌<◌, ◌≤◌, ap, sym, ◌∙◌, arith, zero-add}
 use Rattle.std.proofs.Math.Nat.{mul_comm}
 use Rattle.tab_core.specs.Sums.{total}
-use Rattle.flow_net.specs.Load.{Load, IsLoad, span, jobs, demand, given, used}
+use Rattle.flow_net.specs.Load.{Load, IsLoad, span, jobs, round_demand, given, used}
 use Rattle.tab_core.proofs.Totals.{total-ext, total-le, total-swap, total-const, total-scale}
 use Rattle.flow_net.proofs.Spans.{by_jobs, spans_sum}
 
@@ -26,10 +26,10 @@ given_used l ok f =
 pub no_allotment_beyond : (l : Load) → IsLoad l → (f : ℕ → ℕ → ℕ)
     → ((v k : ℕ) → v < l.width → k < jobs l v → given l f v k ≡ l.cost v)
     → ((i : ℕ) → i < l.count → used l f i ≤ l.cores * span l i)
-    → total (demand l) l.width ≤ l.cores * l.round
+    → total (round_demand l) l.width ≤ l.cores * l.round
 no_allotment_beyond l ok f serves fits =
-    let due : total (demand l) l.width ≡ total (λ v. total (given l f v) (jobs l v)) l.width
-    = total-ext (demand l) _ l.width (λ v h. mul_comm (l.cost v) (jobs l v)
+    let due : total (round_demand l) l.width ≡ total (λ v. total (given l f v) (jobs l v)) l.width
+    = total-ext (round_demand l) _ l.width (λ v h. mul_comm (l.cost v) (jobs l v)
     ∙ sym (total-const (l.cost v) (jobs l v))
     ∙ sym (total-ext (given l f v) (λ k. l.cost v) (jobs l v) (λ k lt. serves v k h lt))) in
     let most = total-le (used l f) (λ i. l.cores * span l i) l.count fits in

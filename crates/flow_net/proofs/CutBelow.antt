@@ -3,8 +3,8 @@ use Rattle.std.proofs.Common.{◌≡◌, ℕ, ◌+◌, ◌*◌, ◌<◌, ◌≤�
 use Rattle.std.proofs.lemmas.Bool.{cases_eq, cond-false, ne_eqb}
 use Rattle.std.proofs.Math.Nat.{mul_comm, add-mul, zero-mul, mul-le-mul_right, le_of_mul-le-mul_right}
 use Rattle.tab_core.specs.Sums.{total}
-use Rattle.flow_net.specs.Load.{Load, IsLoad, span, job, jobs, demand, over_job}
-use Rattle.flow_net.specs.Flows.{Fits}
+use Rattle.flow_net.specs.Load.{Load, IsLoad, span, job, jobs, round_demand, over_job}
+use Rattle.flow_net.specs.Flows.{FitsCores}
 use Rattle.tab_core.proofs.Totals.{total-ext, total-none}
 use Rattle.flow_net.proofs.Cut.{no_cut_below, scaled}
 use Rattle.flow_net.proofs.Spans.{by_jobs}
@@ -12,9 +12,9 @@ use Rattle.flow_net.proofs.Ends.{fluid_job}
 
 -- the part of a job's fluid share that is chosen
 chosen_job : (l : Load) → IsLoad l → (b : ℕ → Bool) (v k : ℕ) → v < l.width → k < jobs l v
-    → over_job l v k (λ i. cond (b (job l v i)) (demand l v * span l i) 0) ≡ cond (b k) (l.cost v) 0 * l.round
+    → over_job l v k (λ i. cond (b (job l v i)) (round_demand l v * span l i) 0) ≡ cond (b k) (l.cost v) 0 * l.round
 chosen_job l ok b v k h lt =
-    let f = λ (i : ℕ). demand l v * span l i in
+    let f = λ (i : ℕ). round_demand l v * span l i in
     let same : over_job l v k (λ i. cond (b (job l v i)) (f i) 0) ≡ over_job l v k (λ i. cond (b k) (f i) 0)
     = total-ext _ _ l.count (λ i _. elim (cases_eq (job l v i) k) [
       | inl e ↦ ap (λ m. cond (job l v i == k) (cond (b m) (f i) 0) 0) e
@@ -40,21 +40,21 @@ far_scaled true false round s = mul_comm round s
 far_scaled false y round s = sym (zero-mul round)
 
 -- no cut of a load is below the sum of its costs
-pub cut_is_enough : (l : Load) → IsLoad l → Fits l → (chosen : ℕ → ℕ → Bool) (near : ℕ → Bool)
+pub cut_is_enough : (l : Load) → IsLoad l → FitsCores l → (chosen : ℕ → ℕ → Bool) (near : ℕ → Bool)
     → total (λ v. total (λ k. cond (chosen v k) (l.cost v) 0) (jobs l v)) l.width
     ≤ total (λ i. cond (near i) (l.cores * span l i) 0) l.count
     + total (λ v. total (λ i. cond (chosen v (job l v i)) (cond (near i) 0 (span l i)) 0) l.count) l.width
 cut_is_enough l ok fits chosen near =
-    let cut = no_cut_below l.width l.count (l.cores * l.round) l.round (demand l) (span l)
+    let cut = no_cut_below l.width l.count (l.cores * l.round) l.round (round_demand l) (span l)
     (λ v i. chosen v (job l v i)) near (record {
       fits = fits;
       single = λ w h. (let m = mul-le-mul_right (jobs l w) (ok.within w h) in omega (arith, m, ok.whole w h));
     }) in
     let costs = λ (v : ℕ). total (λ k. cond (chosen v k) (l.cost v) 0) (jobs l v) in
-    let left : total (λ v. total (λ i. cond (chosen v (job l v i)) (demand l v * span l i) 0) l.count) l.width
+    let left : total (λ v. total (λ i. cond (chosen v (job l v i)) (round_demand l v * span l i) 0) l.count) l.width
     ≡ total costs l.width * l.round
     = total-ext _ _ l.width (λ v h. sym
-    (by_jobs l ok v h (λ i. cond (chosen v (job l v i)) (demand l v * span l i) 0))
+    (by_jobs l ok v h (λ i. cond (chosen v (job l v i)) (round_demand l v * span l i) 0))
     ∙ total-ext _ _ (jobs l v) (λ k lt. chosen_job l ok (chosen v) v k h lt)
     ∙ scaled (λ k. cond (chosen v k) (l.cost v) 0) l.round (jobs l v))
     ∙ scaled costs l.round l.width in

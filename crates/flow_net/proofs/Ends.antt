@@ -3,7 +3,7 @@ use Rattle.std.proofs.Common.{◌≡◌, ℕ, ◌+◌, ◌*◌, ◌<◌, ◌≤�
 use Rattle.std.proofs.lemmas.Bool.{cases_eq, ne_eqb, cond-false}
 use Rattle.std.proofs.Math.Nat.{mul-le-mul_right}
 use Rattle.tab_core.specs.Sums.{total}
-use Rattle.flow_net.specs.Load.{Load, IsLoad, IsFlow, span, job, jobs, demand, given, over_job}
+use Rattle.flow_net.specs.Load.{Load, IsLoad, IsFlow, span, job, jobs, round_demand, given, over_job}
 use Rattle.tab_core.proofs.Totals.{total-ext, total-le, total-lt, total-scale, total-none}
 use Rattle.flow_net.proofs.Spans.{by_jobs, window_of, window_job, spans_fill, job_in}
 use Rattle.flow_net.proofs.Cut.{scaled}
@@ -47,9 +47,9 @@ whole_inside l seen f v k b all =
 
 -- all that the fluid schedule gives a job
 pub fluid_job : (l : Load) → IsLoad l → (v k : ℕ) → v < l.width → k < jobs l v
-    → over_job l v k (λ i. demand l v * span l i) ≡ l.cost v * l.round
+    → over_job l v k (λ i. round_demand l v * span l i) ≡ l.cost v * l.round
 fluid_job l ok v k h lt =
-    let d = demand l v in
+    let d = round_demand l v in
     let inner : over_job l v k (λ i. d * span l i)
     ≡ total (λ i. d * cond (job l v i == k) (span l i) 0) l.count
     = total-ext (λ i. cond (job l v i == k) (d * span l i) 0) (λ i. d * cond (job l v i == k) (span l i) 0)
@@ -67,7 +67,7 @@ job_inside : (l : Load) (f lack : ℕ → ℕ → ℕ) (room : ℕ → ℕ) (see
     → IsFlow l f lack room l.count → IsStuck l f lack room seen near v i → (w k : ℕ) → w < l.width
     → k < jobs l w
     → over_job l w k (inside seen f w) * l.round
-    ≤ over_job l w k (inside seen (λ u j. demand l u * span l j) w)
+    ≤ over_job l w k (inside seen (λ u j. round_demand l u * span l j) w)
 job_inside l f lack room seen near v i ok flow s w k h lt =
     let o = window_of l ok w k h lt in
     let in_round : o.0 < l.count = omega (arith, o.2.some, o.2.in_round) in
@@ -76,13 +76,13 @@ job_inside l f lack room seen near v i ok flow s w k h lt =
     = λ j a e. s.jobwise w j o.0 h a in_round (e
     ∙ sym (window_job l ok w k o.0 o.1 o.0 o.2 (omega arith) o.2.some)) in
     let left = whole_inside l seen f w k b all in
-    let right = whole_inside l seen (λ u j. demand l u * span l j) w k b all in
+    let right = whole_inside l seen (λ u j. round_demand l u * span l j) w k b all in
     let most : given l f w k * l.round
     ≤ l.cost w * l.round = mul-le-mul_right l.round (omega (arith, flow.due w k h lt)) in
     let middle : cond b (over_job l w k (f w)) 0 * l.round
-    ≤ cond b (over_job l w k (λ j. demand l w * span l j)) 0
+    ≤ cond b (over_job l w k (λ j. round_demand l w * span l j)) 0
     = elim b as (λ b. cond b (over_job l w k (f w)) 0 * l.round
-    ≤ cond b (over_job l w k (λ j. demand l w * span l j)) 0) [
+    ≤ cond b (over_job l w k (λ j. round_demand l w * span l j)) 0) [
       | true ↦ omega (arith, most, fluid_job l ok w k h lt)
       | false ↦ omega arith
     ] in
@@ -93,15 +93,15 @@ job_lacks : (l : Load) (f lack : ℕ → ℕ → ℕ) (room : ℕ → ℕ) (seen
     → Bool) (v i : ℕ) → IsLoad l
     → IsFlow l f lack room l.count → IsStuck l f lack room seen near v i
     → over_job l v (job l v i) (inside seen f v) * l.round
-    < over_job l v (job l v i) (inside seen (λ u j. demand l u * span l j) v)
+    < over_job l v (job l v i) (inside seen (λ u j. round_demand l u * span l j) v)
 job_lacks l f lack room seen near v i ok flow s =
     let k = job l v i in
     let lt = job_in l ok v i s.vcpu s.interval in
     let all : (j : ℕ) → j < l.count → job l v j ≡ k → seen v j ≡ true
     = λ j a e. s.jobwise v j i s.vcpu a s.interval e ∙ s.root in
     let left : over_job l v k (inside seen f v) ≡ given l f v k = whole_inside l seen f v k true all in
-    let right : over_job l v k (inside seen (λ u j. demand l u * span l j) v) ≡ l.cost v * l.round
-    = whole_inside l seen (λ u j. demand l u * span l j) v k true all ∙ fluid_job l ok v k s.vcpu lt in
+    let right : over_job l v k (inside seen (λ u j. round_demand l u * span l j) v) ≡ l.cost v * l.round
+    = whole_inside l seen (λ u j. round_demand l u * span l j) v k true all ∙ fluid_job l ok v k s.vcpu lt in
     let due = flow.due v k s.vcpu lt in
     let more : (given l f v k + 1) * l.round
     ≤ l.cost v * l.round = mul-le-mul_right l.round (omega (arith, due, s.lacks)) in
@@ -111,10 +111,10 @@ job_lacks l f lack room seen near v i ok flow s =
 -- a search that has read all edges of what it reached has found room
 pub never_stuck_here : (l : Load) (f lack : ℕ → ℕ → ℕ) (room : ℕ → ℕ) (seen : ℕ → ℕ → Bool) (near : ℕ
     → Bool) (v i : ℕ) → IsLoad l
-    → total (demand l) l.width ≤ l.cores * l.round → IsFlow l f lack room l.count
+    → total (round_demand l) l.width ≤ l.cores * l.round → IsFlow l f lack room l.count
     → IsStuck l f lack room seen near v i → ⊥
 never_stuck_here l f lack room seen near v i ok fits flow s =
-    let fluid_all = λ (u j : ℕ). demand l u * span l j in
+    let fluid_all = λ (u j : ℕ). round_demand l u * span l j in
     let per_vcpu : (w : ℕ) → w < l.width
     → total (inside seen f w) l.count * l.round ≤ total (inside seen fluid_all w) l.count
     = λ w h.
@@ -143,7 +143,7 @@ never_stuck_here l f lack room seen near v i ok fits flow s =
     ) in
     let all = total-lt (λ w. total (inside seen f w) l.count * l.round)
     (λ w. total (inside seen fluid_all w) l.count) l.width v per_vcpu s.vcpu at_root in
-    never_stuck l.width l.count l.cores l.round (demand l) (span l) f seen near
+    never_stuck l.width l.count l.cores l.round (round_demand l) (span l) f seen near
     (record {
       fits = fits;
       single = λ w h. (let m = mul-le-mul_right (jobs l w) (ok.within w h) in omega (arith, m, ok.whole w h));

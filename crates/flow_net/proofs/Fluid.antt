@@ -3,7 +3,7 @@ use Rattle.std.proofs.Common.{◌≡◌, ℕ, ◌+◌, ◌-◌, ◌*◌, ◌/◌
 use Rattle.std.proofs.lemmas.Bool.{cases_lt}
 use Rattle.std.proofs.Math.Nat.{mul_comm, mul-le-mul_right, le_of_mul-le-mul_right, div-mul-le_self, le-div_iff_mul-le}
 use Rattle.tab_core.specs.Sums.{total}
-use Rattle.flow_net.specs.Load.{Load, IsLoad, span, jobs, demand, given, used, over_job}
+use Rattle.flow_net.specs.Load.{Load, IsLoad, span, jobs, round_demand, given, used, over_job}
 use Rattle.flow_net.specs.Flows.{fluid}
 use Rattle.tab_core.proofs.Totals.{total-le, total-const}
 use Rattle.flow_net.proofs.Cut.{scaled}
@@ -49,22 +49,22 @@ fluid_given l ok v k h lt =
     (omega (arith, both.0, given_is), omega (arith, both.1, given_is, ones))
 
 -- over a round it is at most the demand, by the share of the interval
-fluid_demand : (l : Load) → IsLoad l → (v i : ℕ) → v < l.width → fluid l v i * l.round ≤ demand l v * span l i
+fluid_demand : (l : Load) → IsLoad l → (v i : ℕ) → v < l.width → fluid l v i * l.round ≤ round_demand l v * span l i
 fluid_demand l ok v i h =
     let low = mul-le-mul_right (jobs l v) (div_low (l.cost v * span l i) (l.period v)) in
     let f = fluid l v i in
     let whole : f * l.round ≡ f * l.period v * jobs l v = ap (λ n. f * n) (sym (ok.whole v h))
     ∙ omega arith in
-    let turned : l.cost v * span l i * jobs l v ≡ demand l v * span l i = omega arith in
+    let turned : l.cost v * span l i * jobs l v ≡ round_demand l v * span l i = omega arith in
     omega (arith, low, whole, turned)
 
 -- all vCPUs together use at most what the cores offer
-pub fluid_used : (l : Load) → IsLoad l → total (demand l) l.width ≤ l.cores * l.round → (i : ℕ)
+pub fluid_used : (l : Load) → IsLoad l → total (round_demand l) l.width ≤ l.cores * l.round → (i : ℕ)
     → used l (fluid l) i ≤ l.cores * span l i
 fluid_used l ok fits i =
-    let each = total-le (λ v. fluid l v i * l.round) (λ v. demand l v * span l i) l.width
+    let each = total-le (λ v. fluid l v i * l.round) (λ v. round_demand l v * span l i) l.width
     (λ v h. fluid_demand l ok v i h) in
     let left = scaled (λ v. fluid l v i) l.round l.width in
-    let right = scaled (demand l) (span l i) l.width in
+    let right = scaled (round_demand l) (span l i) l.width in
     let most = mul-le-mul_right (span l i) fits in
     le_of_mul-le-mul_right {k = l.round} (omega (arith, each, left, right, most)) ok.some_round

@@ -3,7 +3,7 @@ use Rattle.std.proofs.Common.{◌≡◌, ℕ, ◌+◌, ◌*◌, ◌<◌, ◌≤�
 use Rattle.std.proofs.lemmas.Bool.{cases_eq, false≢true, ltb-true, lt-ltb}
 use Rattle.std.proofs.Math.Nat.{mul-le-mul_right}
 use Rattle.flow_net.specs.Load.{Load, IsLoad, IsFlow}
-use Rattle.flow_net.specs.Flows.{Fits}
+use Rattle.flow_net.specs.Flows.{FitsCores}
 use Rattle.flow_net.specs.Inside.Reach.{Reached, IsSearch, IsJobwise, IsReadUpTo, IsRooted, ReadsMore}
 use Rattle.flow_net.proofs.Ends.{never_stuck_here}
 
@@ -21,7 +21,7 @@ rooted_more l lack rv rk q q' r more = record {
 
 -- a search with a root and no room left to read contradicts the cut
 pub never_ends : (l : Load) (f lack : ℕ → ℕ → ℕ) (room : ℕ → ℕ) (rv rk head : ℕ) (q : Reached) → IsLoad l
-    → Fits l
+    → FitsCores l
     → IsFlow l f lack room l.count → IsSearch l f rv rk q → IsJobwise l q → IsRooted l lack rv rk q
     → IsReadUpTo l f room q head
     → q.tail ≤ head → ⊥

@@ -10,7 +10,7 @@ use Rattle.tab_core.proofs.Periods.{period_facts}
 use Rattle.tab_core.specs.Sums.{total}
 use Rattle.tab_core.proofs.Totals.{total-front}
 use Rattle.flow_net.specs.Load.{IsLoad}
-use Rattle.flow_net.specs.Flows.{Fits, flow_of, load_of}
+use Rattle.flow_net.specs.Flows.{FitsCores, flow_of, load_of}
 use Rattle.flow_net.specs.Allotments.{cost_of_task, period_of_task, demand_of_task, demands, load_of_tasks, AreMarks, AllotmentView, IsAllotment}
 use Rattle.flow_net.proofs.Beyond.{no_allotment_beyond}
 
@@ -102,7 +102,7 @@ demands_total (t ∷ ts) =
 
 -- demands that fit the cores as tasks do so as a load
 pub fits_of_demands : (tasks : List (Option Periodic)) (marks : List ℕ) (cores : ℕ)
-    → demands tasks ≤ cores * ROUND → Fits (load_of_tasks tasks marks cores)
+    → demands tasks ≤ cores * ROUND → FitsCores (load_of_tasks tasks marks cores)
 fits_of_demands tasks marks cores h =
     let n = length-map tasks cost_of_task in
     let f = λ (v : ℕ). get_or (map cost_of_task tasks) v 0 * (ROUND / get_or (map period_of_task tasks) v 0)

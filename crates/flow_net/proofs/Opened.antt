@@ -7,7 +7,7 @@ use Rattle.flow_net.specs.declared.demands.Demands.{Demands}
 use Rattle.flow_net.specs.Inside.Demanded.{load}
 use Rattle.tab_core.specs.Sums.{total}
 use Rattle.flow_net.specs.Load.{Load, IsLoad, job, jobs, given, span, used, over_job}
-use Rattle.flow_net.specs.Flows.{all_lacks, lack_of, flow_of, fluid, Fits}
+use Rattle.flow_net.specs.Flows.{all_lacks, lack_of, flow_of, fluid, FitsCores}
 use Rattle.flow_net.specs.Counts.{admitted, is_due, jobs_due, job_count}
 use Rattle.tab_core.proofs.Totals.{total-ext, total-le, total-add, total-none, total-const}
 use Rattle.flow_net.proofs.Cut.{scaled}
@@ -30,7 +30,7 @@ pub opened_most : (l : Load) → IsLoad l → (f : ℕ → ℕ → ℕ) → IsOp
 opened_most l ok f o v k h lt = omega (arith, opened_given l f o v k h, (fluid_given l ok v k h lt).0)
 
 -- the intervals have room for the opening flow
-pub opened_used : (l : Load) → IsLoad l → (f : ℕ → ℕ → ℕ) → Fits l → IsOpen l f → (i : ℕ) → i < l.count
+pub opened_used : (l : Load) → IsLoad l → (f : ℕ → ℕ → ℕ) → FitsCores l → IsOpen l f → (i : ℕ) → i < l.count
     → used l f i ≤ l.cores * (l.mark (i + 1) - l.mark i)
 opened_used l ok f fits o i h =
     let same : used l f i

@@ -2,17 +2,17 @@
 use Rattle.std.proofs.Common.{◌≡◌, ℕ, ◌+◌, ◌<◌, ◌≤◌, refl, sym, ◌∙◌, arith, ◌⊎◌, inl, inr}
 use Rattle.std.proofs.lemmas.Bool.{cases_lt, cases_eq}
 use Rattle.flow_net.specs.Load.{Load, IsLoad, Window, job}
-use Rattle.flow_net.specs.Inside.Reach.{Reached, IsMore, IsJobwise, IsReading, ReadsMore}
+use Rattle.flow_net.specs.Inside.Reach.{Reached, IsMore, IsJobwise, AreEdgesRead, ReadsMore}
 use Rattle.flow_net.proofs.Moves.{Raised}
 use Rattle.flow_net.proofs.Spans.{window_job, before_window, after_window}
 
 -- before the first edge of a job
-pub reading_start : (l : Load) (q : Reached) (u from : ℕ) → IsReading l q q u from from
+pub reading_start : (l : Load) (q : Reached) (u from : ℕ) → AreEdgesRead l q q u from from
 reading_start l q u from = record { done = λ i a b. absurd (omega arith); others = λ v i ne. refl }
 
 -- one edge more of the job
-pub reading_more : (l : Load) (q q' q'' : Reached) (u from j : ℕ) → IsReading l q q' u from j → from ≤ j
-    → q.scan u j ≡ 0 → Raised q'.scan q''.scan u j → IsReading l q q'' u from (j + 1)
+pub reading_more : (l : Load) (q q' q'' : Reached) (u from j : ℕ) → AreEdgesRead l q q' u from j → from ≤ j
+    → q.scan u j ≡ 0 → Raised q'.scan q''.scan u j → AreEdgesRead l q q'' u from (j + 1)
 reading_more l q q' q'' u from j r le none up = record {
   done = λ i a b. elim (cases_eq i j) [
     | inl e ↦ rw e (omega (arith, up.here, none, r.others u j (λ x y z. omega arith)))
@@ -23,7 +23,7 @@ reading_more l q q' q'' u from j r le none up = record {
 }
 
 -- the edge was not read before
-pub reading_unread : (l : Load) (q q' : Reached) (u from j : ℕ) → IsReading l q q' u from j
+pub reading_unread : (l : Load) (q q' : Reached) (u from j : ℕ) → AreEdgesRead l q q' u from j
     → q.scan u j ≡ 0 → q'.scan u j ≡ 0
 reading_unread l q q' u from j r none = r.others u j (λ x y z. omega arith) ∙ none
 
@@ -40,7 +40,7 @@ in_window l ok u k from until i w h = elim (cases_lt i from) [
 
 -- after the last one whole jobs are read
 pub reading_jobwise : (l : Load) → IsLoad l → (q q' : Reached) (u k from until : ℕ) → Window l u k from until
-    → IsReading l q q' u from until → IsJobwise l q → IsJobwise l q'
+    → AreEdgesRead l q q' u from until → IsJobwise l q → IsJobwise l q'
 reading_jobwise l ok q q' u k from until w r old v i j h a b e = elim (cases_eq v u) [
   | inl is_u ↦ (let e' : job l u i ≡ job l u j = rw is_u at e in
       elim (in_window l ok u k from until i w a) [
@@ -59,7 +59,7 @@ reading_jobwise l ok q q' u k from until w r old v i j h a b e = elim (cases_eq 
 
 -- a whole reading has read all edges of the job
 pub reading_all : (l : Load) → IsLoad l → (q q' : Reached) (u k from until i : ℕ) → Window l u k from until
-    → IsReading l q q' u from until → i < l.count → job l u i ≡ k → 0 < q'.scan u i
+    → AreEdgesRead l q q' u from until → i < l.count → job l u i ≡ k → 0 < q'.scan u i
 reading_all l ok q q' u k from until i w r h e = elim (in_window l ok u k from until i w h) [
   | inl here ↦ omega (arith, r.done i here.0 here.1)
   | inr there ↦ absurd (there.1 e)
@@ -67,7 +67,7 @@ reading_all l ok q q' u k from until i w r h e = elim (in_window l ok u k from u
 
 -- a reading has read no edge less than before
 pub reading_keeps : (l : Load) → IsLoad l → (q q' : Reached) (u k from until : ℕ) → Window l u k from until
-    → IsReading l q q' u from until → ((i : ℕ) → i < l.count → job l u i ≡ k → q.scan u i ≡ 0)
+    → AreEdgesRead l q q' u from until → ((i : ℕ) → i < l.count → job l u i ≡ k → q.scan u i ≡ 0)
     → ReadsMore l q q'
 reading_keeps l ok q q' u k from until w r none v i h a = elim (cases_eq v u) [
   | inl e ↦ elim (in_window l ok u k from until i w a) [

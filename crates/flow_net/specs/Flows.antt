@@ -4,7 +4,7 @@
 use Rattle.std.specs.Prelude.{◌≡◌, ℕ, ◌-◌, ◌*◌, ◌/◌, ◌<◌, ◌≤◌, List, length, slice_index}
 use Rattle.tab_core.specs.declared.TheConstants.{ROUND}
 use Rattle.tab_core.specs.Sums.{total}
-use Rattle.flow_net.specs.Load.{Load, IsFlow, demand, jobs, span, used}
+use Rattle.flow_net.specs.Load.{Load, IsFlow, round_demand, jobs, span, used}
 use Rattle.flow_net.specs.Rows.{row_at, ticks_at}
 
 -- the demands on the cores
@@ -20,8 +20,8 @@ load_of costs periods marks cores = record {
 }
 
 -- the demands fit the cores
-abbrev pub Fits : Load → Type 0
-Fits l = total (demand l) l.width ≤ l.cores * l.round
+abbrev pub FitsCores : Load → Type 0
+FitsCores l = total (round_demand l) l.width ≤ l.cores * l.round
 
 -- what a vCPU gets in an interval
 abbrev pub flow_of : List (List ℕ) → ℕ → ℕ → ℕ

@@ -28,8 +28,8 @@ abbrev pub jobs : Load → ℕ → ℕ
 jobs l v = l.round / l.period v
 
 -- what the vCPU is due in a round
-abbrev pub demand : Load → ℕ → ℕ
-demand l v = l.cost v * jobs l v
+abbrev pub round_demand : Load → ℕ → ℕ
+round_demand l v = l.cost v * jobs l v
 
 -- the marks rise from 0 to the round, each interval lies inside one period of each vCPU, and no cost
 -- is above its period

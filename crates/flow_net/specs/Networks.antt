@@ -5,7 +5,7 @@
 use Rattle.std.specs.Prelude.{◌≡◌, ℕ, ◌+◌, ◌-◌, ◌*◌, ◌<◌, Bool, if◌then◌else◌, List}
 use Rattle.tab_core.specs.Sums.{total}
 use Rattle.flow_net.specs.Load.{IsLoad, Load, given, jobs, span, used}
-use Rattle.flow_net.specs.Flows.{Fits, IsNet, all_lacks, flow_of, flow_sum, load_of}
+use Rattle.flow_net.specs.Flows.{FitsCores, IsNet, all_lacks, flow_of, flow_sum, load_of}
 use Rattle.flow_net.specs.Counts.{admitted, admitted_below, is_due, job_count, jobs_due}
 
 -- what each vCPU is due in each of its periods, the marks that cut the round, and how many cores
@@ -16,8 +16,8 @@ pub record DemandsView : Type 0 where
   pub cores : ℕ
 
 -- the demands, the marks and the cores as a load
-abbrev pub load : DemandsView → Load
-load d = load_of d.costs d.periods d.marks d.cores
+abbrev pub load_of_view : DemandsView → Load
+load_of_view d = load_of d.costs d.periods d.marks d.cores
 
 -- the demands; in each interval the ticks of each vCPU and the room that is left; and what each job
 -- of each vCPU still needs
@@ -29,17 +29,17 @@ pub record NetView : Type 0 where
 
 -- what all jobs still need
 abbrev pub lacks_of : NetView → ℕ
-lacks_of net = all_lacks (load net.demands) net.lacks
+lacks_of net = all_lacks (load_of_view net.demands) net.lacks
 
 -- the ticks that all jobs get together in the network
 abbrev pub flow_in : NetView → ℕ
-flow_in net = flow_sum (load net.demands) net.rows
+flow_in net = flow_sum (load_of_view net.demands) net.rows
 
 -- the demands are a load that fits the cores, and the flow is one of them
 pub record IsNetwork (net : NetView) : Type 0 where
-  pub load_ok : IsLoad (load net.demands)
-  pub fits : Fits (load net.demands)
-  pub flow_ok : IsNet (load net.demands) net.rows net.lacks net.room (load net.demands).count
+  pub load_ok : IsLoad (load_of_view net.demands)
+  pub fits : FitsCores (load_of_view net.demands)
+  pub flow_ok : IsNet (load_of_view net.demands) net.rows net.lacks net.room (load_of_view net.demands).count
 
 -- Edges have numbers from 0: first those from the source to the jobs of admitted vCPUs, vCPU by vCPU;
 -- then those from an admitted vCPU's jobs to the intervals, interval by interval; then those from the
@@ -67,16 +67,16 @@ pub record IsToSink (l : Load) (edge i : ℕ) : Type 0 where
 -- the ticks that a job can still get from the source, or that can be taken back from it
 abbrev pub left_to_job : NetView → ℕ → ℕ → Bool → ℕ
 left_to_job net v k back =
-    let l = load net.demands in
+    let l = load_of_view net.demands in
     if back then given l (flow_of net.rows) v k else l.cost v - given l (flow_of net.rows) v k
 
 -- what can still go from a vCPU's job to an interval, or be taken back
 abbrev pub left_to_interval : NetView → ℕ → ℕ → Bool → ℕ
 left_to_interval net v i back =
-    if back then flow_of net.rows v i else span (load net.demands) i - flow_of net.rows v i
+    if back then flow_of net.rows v i else span (load_of_view net.demands) i - flow_of net.rows v i
 
 -- what can still go from an interval to the sink, or be taken back
 abbrev pub left_to_sink : NetView → ℕ → Bool → ℕ
 left_to_sink net i back =
-    let l = load net.demands in
+    let l = load_of_view net.demands in
     if back then used l (flow_of net.rows) i else l.cores * span l i - used l (flow_of net.rows) i

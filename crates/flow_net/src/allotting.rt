@@ -2,7 +2,7 @@ ghost use Rattle.std.specs.Prelude.{ℕ, ◌≡◌, ◌+◌, ◌*◌, ◌<◌, �
 ghost use Rattle.tab_core.specs.declared.TheConstants.{MAX_CORES, ROUND};
 ghost use Rattle.flow_net.specs.Allotments.{AreMarks, IsAllotment, demands, load_of_tasks, period_of_task};
 ghost use Rattle.flow_net.specs.Allotted.{allotment_view};
-ghost use Rattle.flow_net.specs.Networks.{IsNetwork, lacks_of, load};
+ghost use Rattle.flow_net.specs.Networks.{IsNetwork, lacks_of, load_of_view};
 ghost use Rattle.flow_net.specs.Counts.{admitted, edges, job_count};
 
 use crate::allotment::Allotment;
@@ -17,7 +17,7 @@ fn search_all<L: Ledger>(net: &mut Net, steps: &mut Steps<L>)
     ensures demands { net.new.demands ≡ net.old.demands }
     ensures done { lacks_of net.new ≡ 0 }
     ensures cost { steps.new ≤ steps.old
-        + 2 * edges (load net.old.demands) * lacks_of net.old + job_count (load net.old.demands) }
+        + 2 * edges (load_of_view net.old.demands) * lacks_of net.old + job_count (load_of_view net.old.demands) }
 {
     let mut raised = true;
     while raised {
@@ -28,14 +28,14 @@ fn search_all<L: Ledger>(net: &mut Net, steps: &mut Steps<L>)
 // Gives every job its cost. The first search finds whether any job still needs ticks; if so, nearly
 // all of them are handed out at once.
 fn saturate<L: Ledger>(alloc: Global, net: &mut Net, steps: &mut Steps<L>) -> Result<(), NoMemory>
-    requires lacks { lacks_of net.old + job_count (load net.old.demands)
-        ≤ admitted (load net.old.demands) * (load net.old.demands).count }
+    requires lacks { lacks_of net.old + job_count (load_of_view net.old.demands)
+        ≤ admitted (load_of_view net.old.demands) * (load_of_view net.old.demands).count }
     ensures network { IfOk result (λ _. IsNetwork net.new) }
     ensures demands { IfOk result (λ _. net.new.demands ≡ net.old.demands) }
     ensures done { IfOk result (λ _. lacks_of net.new ≡ 0) }
     ensures cost { steps.new ≤ steps.old
-        + 2 * (admitted (load net.old.demands) * (load net.old.demands).count)
-        * edges (load net.old.demands) }
+        + 2 * (admitted (load_of_view net.old.demands) * (load_of_view net.old.demands).count)
+        * edges (load_of_view net.old.demands) }
 {
     if net.search(steps) {
         net.fill(alloc, steps)?;

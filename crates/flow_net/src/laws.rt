@@ -1,7 +1,7 @@
 ghost use Rattle.std.specs.Prelude.{ℕ, ◌≡◌, ◌+◌, ◌*◌, ◌≤◌, Bool, List, Option, cond};
 ghost use Rattle.tab_core.specs.Sums.{total};
 ghost use Rattle.flow_net.specs.Load.{IsLoad, Load, job, jobs, span};
-ghost use Rattle.flow_net.specs.Flows.{Fits};
+ghost use Rattle.flow_net.specs.Flows.{FitsCores};
 ghost use Rattle.tab_core.specs.declared.TheConstants.{ROUND};
 ghost use Rattle.tab_core.specs.declared.periodic.Periodic.{Periodic};
 ghost use Rattle.flow_net.specs.Allotments.{AllotmentView, AreMarks, IsAllotment, demands};
@@ -16,7 +16,7 @@ pub fn allotments_fit()
 /// No cut is below the sum of the costs: chosen jobs cost no more than the cores offer in chosen
 /// intervals and the jobs' other intervals have.
 pub fn cuts_are_enough()
-    ensures { (l : Load) → IsLoad l → Fits l → (chosen : ℕ → ℕ → Bool) (near : ℕ → Bool)
+    ensures { (l : Load) → IsLoad l → FitsCores l → (chosen : ℕ → ℕ → Bool) (near : ℕ → Bool)
         → total (λ v. total (λ k. cond (chosen v k) (l.cost v) 0) (jobs l v)) l.width
         ≤ total (λ i. cond (near i) (l.cores * span l i) 0) l.count
         + total (λ v. total (λ i. cond (chosen v (job l v i)) (cond (near i) 0 (span l i)) 0) l.count)

@@ -2,7 +2,7 @@ ghost use Rattle.std.specs.Prelude.{ℕ, ◌≡◌, ◌+◌, ◌*◌, ◌<◌, �
 ghost use Rattle.tab_core.specs.declared.TheConstants.{MAX_CORES, ROUND};
 ghost use Rattle.flow_net.specs.Allotments.{AreMarks, demands, load_of_tasks, period_of_task};
 ghost use Rattle.flow_net.specs.Flows.{fluid};
-ghost use Rattle.flow_net.specs.Networks.{IsNetwork, IsToInterval, IsToJob, IsToSink, flow_in, lacks_of, left_to_interval, left_to_job, left_to_sink, load};
+ghost use Rattle.flow_net.specs.Networks.{IsNetwork, IsToInterval, IsToJob, IsToSink, flow_in, lacks_of, left_to_interval, left_to_job, left_to_sink, load_of_view};
 ghost use Rattle.flow_net.specs.Counts.{admitted, edges, job_count};
 ghost use Rattle.flow_net.specs.Rows.{ticks_at};
 
@@ -36,13 +36,13 @@ pub struct Net {
 impl Model for Net {
     ghost use Rattle.flow_net.specs.Inside.Demanded.{net_view};
     ghost use Rattle.flow_net.specs.Networks.{NetView};
-    ghost use Rattle.flow_net.specs.Inside.Reaching.{IsKept};
+    ghost use Rattle.flow_net.specs.Inside.Reaching.{IsNetworkKept};
 
     ghost Value = { NetView };
 
     ghost view = { λ net. net_view net.demands net.flow };
 
-    ghost invariant = { λ net. IsKept net.demands net.flow net.reach };
+    ghost invariant = { λ net. IsNetworkKept net.demands net.flow net.reach };
 }
 
 impl Net {
@@ -56,14 +56,14 @@ impl Net {
         requires cores { cores ≤ MAX_CORES }
         requires fits { demands tasks.now ≤ cores * ROUND }
         ensures network { IfOk result IsNetwork }
-        ensures load { IfOk result (λ net. load net.demands
+        ensures load_of_view { IfOk result (λ net. load_of_view net.demands
             ≡ load_of_tasks tasks.now net.demands.marks cores) }
         ensures marks { IfOk result (λ net. AreMarks (map period_of_task tasks.now) net.demands.marks) }
-        ensures opening { IfOk result (λ net. (v i : ℕ) → v < (load net.demands).width
-            → i < (load net.demands).count
-            → ticks_at net.rows i v ≡ fluid (load net.demands) v i) }
-        ensures lacks { IfOk result (λ net. lacks_of net + job_count (load net.demands)
-            ≤ admitted (load net.demands) * (load net.demands).count) }
+        ensures opening { IfOk result (λ net. (v i : ℕ) → v < (load_of_view net.demands).width
+            → i < (load_of_view net.demands).count
+            → ticks_at net.rows i v ≡ fluid (load_of_view net.demands) v i) }
+        ensures lacks { IfOk result (λ net. lacks_of net + job_count (load_of_view net.demands)
+            ≤ admitted (load_of_view net.demands) * (load_of_view net.demands).count) }
     {
         let demands = demands_of(alloc, tasks.items(), cores)?;
         let flow = open_flow(alloc, &demands)?;
@@ -88,20 +88,20 @@ impl Net {
         ensures rose { IsTrue result → flow_in self.new ≡ flow_in self.old + 1 }
         ensures done { result ≡ false → lacks_of self.old ≡ 0 }
         ensures kept { result ≡ false → self.new ≡ self.old }
-        ensures cost { steps.new ≤ steps.old + 2 * edges (load self.old.demands) }
-        ensures last { result ≡ false → steps.new ≤ steps.old + job_count (load self.old.demands) }
+        ensures cost { steps.new ≤ steps.old + 2 * edges (load_of_view self.old.demands) }
+        ensures last { result ≡ false → steps.new ≤ steps.old + job_count (load_of_view self.old.demands) }
     {
         search_once(&self.demands, &mut self.flow, &mut self.reach, steps)
     }
 
     /// What the edge of this number can still take or, backwards, give back, in ticks. It tells one step.
     pub fn left<L: Ledger>(&self, edge: u32, back: bool, steps: &mut Steps<L>) -> u32
-        requires { edge < edges (load self.now.demands) }
-        ensures to_job { (v k : ℕ) → IsToJob (load self.now.demands) edge v k
+        requires { edge < edges (load_of_view self.now.demands) }
+        ensures to_job { (v k : ℕ) → IsToJob (load_of_view self.now.demands) edge v k
             → result ≡ left_to_job self.now v k back }
-        ensures to_interval { (v i : ℕ) → IsToInterval (load self.now.demands) edge v i
+        ensures to_interval { (v i : ℕ) → IsToInterval (load_of_view self.now.demands) edge v i
             → result ≡ left_to_interval self.now v i back }
-        ensures to_sink { (i : ℕ) → IsToSink (load self.now.demands) edge i
+        ensures to_sink { (i : ℕ) → IsToSink (load_of_view self.now.demands) edge i
             → result ≡ left_to_sink self.now i back }
         ensures cost { steps.new ≡ steps.old + 1 }
     {
@@ -118,7 +118,7 @@ impl Net {
         ensures demands { self.new.demands ≡ self.old.demands }
         ensures lacks { lacks_of self.new ≤ lacks_of self.old }
         ensures cost { steps.new ≤ steps.old
-            + (load self.old.demands).count * (2 * admitted (load self.old.demands) + 1) }
+            + (load_of_view self.old.demands).count * (2 * admitted (load_of_view self.old.demands) + 1) }
     {
         fill(alloc, &self.demands, &mut self.flow, steps)
     }

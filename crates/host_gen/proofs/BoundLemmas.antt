@@ -17,7 +17,7 @@ use Rattle.worst_fit.specs.Bound.{IsWithinBound, largest_demand, total_demand}
 use Rattle.worst_fit.specs.Load.{task_demand}
 use Rattle.worst_fit.proofs.BoundLemmas.{none_left}
 use Rattle.plan_make.specs.Planned.{IsFirstWithoutRoom}
-use Rattle.host_gen.specs.Generated.{IsGenerated, IsGeneratedVcpu, IsReservationOf, most_percent, percent_of, period_of}
+use Rattle.host_gen.specs.Generated.{IsGenerated, IsGeneratedReservation, IsGeneratedVcpu, most_percent, percent_of, period_of}
 use Rattle.host_gen.specs.GeneratorWords.{first_word, second_word}
 use Rattle.host_gen.specs.Planning.{HasWholePeriod}
 use Rattle.host_gen.proofs.PlanningLemmas.{whole_reservation}
@@ -27,14 +27,14 @@ use Rattle.host_gen.proofs.PercentLemmas.{most_at_least, most_shared}
 
 -- the law of one vCPU, by its reservation
 pub has_whole_period : (percent second : ℕ) (reservation : Option Reservation)
-    → IsSomeAnd reservation (IsReservationOf percent (period_of second))
+    → IsSomeAnd reservation (IsGeneratedReservation percent (period_of second))
     → IsSomeAnd reservation (HasWholePeriod percent (period_of second))
 has_whole_period percent second None is = is
 has_whole_period percent second (Some r) is = whole_reservation percent second r is
 
 -- a vCPU of such a reservation isn't without a period
 never_lacks : (percent second : ℕ) (reservation : Option Reservation)
-    → IsSomeAnd reservation (IsReservationOf percent (period_of second))
+    → IsSomeAnd reservation (IsGeneratedReservation percent (period_of second))
     → LacksPeriod reservation TICK_NS → ⊥
 never_lacks percent second None is lacks = is
 never_lacks percent second (Some r) is lacks =
@@ -42,7 +42,7 @@ never_lacks percent second (Some r) is lacks =
 
 -- a generated vCPU takes 1026 ticks of a round for each percent
 takes : (percent second : ℕ) (reservation : Option Reservation) (task : Option Periodic)
-    → IsSomeAnd reservation (IsReservationOf percent (period_of second)) → IsTaskOf reservation TICK_NS task
+    → IsSomeAnd reservation (IsGeneratedReservation percent (period_of second)) → IsTaskOf reservation TICK_NS task
     → task_demand task ≡ 1026 * percent
 takes percent second None task is of = absurd is
 takes percent second (Some r) None is of = absurd of

@@ -15,22 +15,22 @@ use Rattle.tab_core.specs.Vcpus.{HaveDistinctNames}
 use Rattle.tab_core.specs.declared.host.Host.{Host}
 use Rattle.tab_core.specs.declared.reservation.Reservation.{Reservation}
 use Rattle.tab_core.specs.declared.vcpu.Vcpu.{Vcpu}
-use Rattle.host_gen.specs.Generated.{AreGenerated, IsGenerated, IsGeneratedVcpu, IsReservationOf, most_percent, name_of, percent_of, period_of}
-use Rattle.host_gen.specs.GeneratorWords.{first_word, second_word, state_after, state_at, state_of_seed}
+use Rattle.host_gen.specs.Generated.{AreGenerated, IsGenerated, IsGeneratedReservation, IsGeneratedVcpu, generated_name, most_percent, percent_of, period_of}
+use Rattle.host_gen.specs.GeneratorWords.{first_word, generator_state_at, second_word, state_after, state_of_seed}
 use Rattle.host_gen.specs.HostText.{AreAdmitted}
 
 -- ---- the generator's states
 
 -- before the first vCPU the state is the seed's
-pub state_at-zero : (seed : ℕ) → state_at seed 0 ≡ state_of_seed seed
-unfolding state_at
+pub state_at-zero : (seed : ℕ) → generator_state_at seed 0 ≡ state_of_seed seed
+unfolding generator_state_at
 state_at-zero seed = refl
 
 -- each vCPU takes two words
 pub state_at-more : (seed number : ℕ)
-    → state_at seed (number + 1) ≡ state_after (state_after (state_at seed number))
-unfolding state_at
-state_at-more seed number = let next : number + 1 ≡ suc number = omega arith in ap (state_at seed) next
+    → generator_state_at seed (number + 1) ≡ state_after (state_after (generator_state_at seed number))
+unfolding generator_state_at
+state_at-more seed number = let next : number + 1 ≡ suc number = omega arith in ap (generator_state_at seed) next
 
 -- ---- names
 
@@ -45,7 +45,7 @@ digits_named = decimal_by_steps (λ n ds. list_all is_byte_of_name ds ≡ true)
     digit n low = grind (arith, nat_tests)
 
 -- each generated name is a name
-pub is_good_name : (number : ℕ) → number < 256 → IsName (name_of number)
+pub is_good_name : (number : ℕ) → number < 256 → IsName (generated_name number)
 is_good_name number low =
     let wide : number < 2 ^ 64 = omega arith in
     let digits = digits_named number wide in
@@ -81,7 +81,7 @@ generated_next seed most number vcpus vcpu size before next k other at =
     ]
 
 -- names of different numbers differ
-same_number : (j k : ℕ) → j < 256 → k < 256 → name_of j ≡ name_of k → j ≡ k
+same_number : (j k : ℕ) → j < 256 → k < 256 → generated_name j ≡ generated_name k → j ≡ k
 same_number j k low high same =
     let digits : decimal j ≡ decimal k = cc in
     decimal_injective j k (omega arith) (omega arith) digits
@@ -107,7 +107,7 @@ admitted seed most vcpus are = λ k d low.
     (are k (get_or vcpus k d) (slice_get-get_or vcpus k d low)).reservation
   where
     some : (percent period : ℕ) (reservation : Option Reservation)
-        → IsSomeAnd reservation (IsReservationOf percent period) → IsSome reservation
+        → IsSomeAnd reservation (IsGeneratedReservation percent period) → IsSome reservation
     some percent period None is = absurd is
     some percent period (Some r) is = refl
 
@@ -132,7 +132,7 @@ none_capped seed most vcpus are = uncapped vcpus (λ k vcpu at. (are k vcpu at).
 
 -- two reservations of the same numbers are one
 one_reservation : (percent period : ℕ) (r s : Option Reservation)
-    → IsSomeAnd r (IsReservationOf percent period) → IsSomeAnd s (IsReservationOf percent period) → r ≡ s
+    → IsSomeAnd r (IsGeneratedReservation percent period) → IsSomeAnd s (IsGeneratedReservation percent period) → r ≡ s
 one_reservation percent period None s of_r of_s = absurd of_r
 one_reservation percent period (Some r) None of_r of_s = absurd of_s
 one_reservation percent period (Some r) (Some s) of_r of_s =

@@ -6,8 +6,8 @@ use Rattle.tab_core.specs.declared.TheConstants.{TICK_NS}
 use Rattle.tab_core.specs.declared.host.Host.{Host}
 use Rattle.tab_core.specs.declared.reservation.Reservation.{Reservation}
 use Rattle.tab_core.specs.declared.vcpu.Vcpu.{Vcpu}
-use Rattle.tab_words.specs.Texts.{line_of, text_of}
-use Rattle.host_gen.specs.HostText.{Line, capped_lines, head_lines, key_words, quoted, truth_word, vcpu_text, format_lines, named_tick, number_lines}
+use Rattle.tab_words.specs.Texts.{Line, line_of, text_of}
+use Rattle.host_gen.specs.HostText.{capped_lines, head_lines, key_words, in_quotes, truth_word, vcpu_text, format_lines, named_tick, number_lines}
 
 -- the line of a key and its value, and what follows it
 pub key_line : (key value rest : List ℕ)
@@ -86,7 +86,7 @@ named_is tick = by_test (tick == TICK_NS) refl
 
 -- a vCPU's lines, piece by piece, before others
 admitted_pieces : (name : List ℕ) (r : Reservation) (truth : List ℕ) (lines : List Line)
-    → text_of (key_words (codes "name") (quoted name) ∷ key_words (codes "share_ppm") (decimal r.share_ppm)
+    → text_of (key_words (codes "name") (in_quotes name) ∷ key_words (codes "share_ppm") (decimal r.share_ppm)
     ∷ key_words (codes "latency_ns") (decimal r.latency_ns) ∷ key_words (codes "runnable") truth ∷ lines)
     ≡ codes "name = \""
     ++ (name
@@ -97,7 +97,7 @@ admitted_pieces name r truth lines =
     let runnable : List Line = key_words (codes "runnable") truth ∷ lines in
     let latency : List Line = key_words (codes "latency_ns") (decimal r.latency_ns) ∷ runnable in
     let share : List Line = key_words (codes "share_ppm") (decimal r.share_ppm) ∷ latency in
-    key_first (codes "name") (quoted name) share _
+    key_first (codes "name") (in_quotes name) share _
     (key_first (codes "share_ppm") (decimal r.share_ppm) latency _
     (key_first (codes "latency_ns") (decimal r.latency_ns) runnable _
     (key_first (codes "runnable") truth lines (text_of lines) refl)))

@@ -9,7 +9,7 @@ use Rattle.tab_core.specs.declared.reservation.Reservation.{Reservation}
 use Rattle.tab_core.proofs.Periods.{period_facts}
 use Rattle.reservation.specs.Cost.{cost, demand}
 use Rattle.period_choice.specs.Choice.{IsAdmissible, MeetsLatency, demand_at}
-use Rattle.host_gen.specs.Generated.{IsReservationOf, period_of, whole_periods}
+use Rattle.host_gen.specs.Generated.{IsGeneratedReservation, period_of, whole_periods}
 use Rattle.host_gen.specs.Planning.{HasWholePeriod}
 
 -- what holds of each of the six periods holds of the one at any place
@@ -53,7 +53,7 @@ whole_each percent = each_period (IsWhole percent)
 
 -- each of the six periods keeps the latency that is made of it
 whole_period : (percent period : ℕ) (r : Reservation) → IsWhole percent period
-    → IsReservationOf percent period r → HasWholePeriod percent period r
+    → IsGeneratedReservation percent period r → HasWholePeriod percent period r
 whole_period percent period r whole is =
     let cost_is : cost r.share_ppm period ≡ period / 100 * percent = rw is.share whole.cost_is in
     let takes : demand_at r period ≡ 1026 * percent = rw cost_is whole.takes in
@@ -71,7 +71,7 @@ whole_period percent period r whole is =
     }
 
 -- a generated vCPU's period is one of the six
-pub whole_reservation : (percent second : ℕ) (r : Reservation) → IsReservationOf percent (period_of second) r
+pub whole_reservation : (percent second : ℕ) (r : Reservation) → IsGeneratedReservation percent (period_of second) r
     → HasWholePeriod percent (period_of second) r
 whole_reservation percent second r is =
     whole_period percent (period_of second) r (whole_each percent (second % 6) (omega arith)) is

@@ -26,27 +26,27 @@ abbrev pub period_of : ℕ → ℕ
 period_of word = slice_index whole_periods (word % 6)
 
 -- the vCPU wants to run as the run begins: in three of four cases
-abbrev pub is_runnable : ℕ → Bool
-is_runnable word = not (word / 6 % 4 == 0)
+abbrev pub starts_runnable : ℕ → Bool
+starts_runnable word = not (word / 6 % 4 == 0)
 
 -- twice the time that the period doesn't give, in ns
-abbrev pub latency_of : ℕ → ℕ → ℕ
-latency_of percent period = 2 * (period - period / 100 * percent) * TICK_NS
+abbrev pub generated_latency : ℕ → ℕ → ℕ
+generated_latency percent period = 2 * (period - period / 100 * percent) * TICK_NS
 
 -- the name of the vCPU of this number
-abbrev pub name_of : ℕ → List ℕ
-name_of number = codes "v" ++ decimal number
+abbrev pub generated_name : ℕ → List ℕ
+generated_name number = codes "v" ++ decimal number
 
 -- so many percent of a core, with the latency that this period keeps
-pub record IsReservationOf (percent period : ℕ) (r : Reservation) : Type 0 where
+pub record IsGeneratedReservation (percent period : ℕ) (r : Reservation) : Type 0 where
   pub share : r.share_ppm ≡ 10000 * percent
-  pub latency : r.latency_ns ≡ latency_of percent period
+  pub latency : r.latency_ns ≡ generated_latency percent period
 
 -- the vCPU of this number, as its two words make it
 pub record IsGeneratedVcpu (most number first second : ℕ) (vcpu : Vcpu) : Type 0 where
-  pub name : vcpu.name ≡ name_of number
-  pub reservation : IsSomeAnd vcpu.reservation (IsReservationOf (percent_of most first) (period_of second))
-  pub runnable : vcpu.runnable ≡ is_runnable second
+  pub name : vcpu.name ≡ generated_name number
+  pub reservation : IsSomeAnd vcpu.reservation (IsGeneratedReservation (percent_of most first) (period_of second))
+  pub runnable : vcpu.runnable ≡ starts_runnable second
   pub capped : vcpu.capped ≡ false
 
 -- each of the vCPUs is that of its number

@@ -10,22 +10,22 @@ abbrev pub state_of_seed : ℕ → ℕ
 state_of_seed seed = from_le_bytes w64 (to_le_bytes w64 seed)
 
 -- the word that a state gives
-unfoldable pub word_of : ℕ → ℕ
-word_of state = (mix_u64 state).0
+unfoldable pub word_of_state : ℕ → ℕ
+word_of_state state = (mix_u64 state).0
 
 -- the state of the generator after it gave a word
 unfoldable pub state_after : ℕ → ℕ
 state_after state = (mix_u64 state).1
 
 -- the state in which the vCPU of this number takes its two words
-unfoldable pub state_at : ℕ → ℕ → ℕ
-state_at seed zero = state_of_seed seed
-state_at seed (suc number) = state_after (state_after (state_at seed number))
+unfoldable pub generator_state_at : ℕ → ℕ → ℕ
+generator_state_at seed zero = state_of_seed seed
+generator_state_at seed (suc number) = state_after (state_after (generator_state_at seed number))
 
 -- the first of the two words of the vCPU of this number
 abbrev pub first_word : ℕ → ℕ → ℕ
-first_word seed number = word_of (state_at seed number)
+first_word seed number = word_of_state (generator_state_at seed number)
 
 -- the second of the two words of the vCPU of this number
 abbrev pub second_word : ℕ → ℕ → ℕ
-second_word seed number = word_of (state_after (state_at seed number))
+second_word seed number = word_of_state (state_after (generator_state_at seed number))

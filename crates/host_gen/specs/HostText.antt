@@ -5,19 +5,15 @@ use Rattle.tab_core.specs.declared.TheConstants.{TICK_NS}
 use Rattle.tab_core.specs.declared.host.Host.{Host}
 use Rattle.tab_core.specs.declared.reservation.Reservation.{Reservation}
 use Rattle.tab_core.specs.declared.vcpu.Vcpu.{Vcpu}
-use Rattle.tab_words.specs.Texts.{text_of}
-
--- a line, as its words
-abbrev pub Line : Type 0
-Line = List (List ℕ)
+use Rattle.tab_words.specs.Texts.{Line, text_of}
 
 -- the line of a key and its value
 abbrev pub key_words : List ℕ → List ℕ → Line
 key_words key value = key ∷ codes "=" ∷ value ∷ []
 
 -- a text between quotation marks
-abbrev pub quoted : List ℕ → List ℕ
-quoted text = 34 ∷ (text ++ 34 ∷ [])
+abbrev pub in_quotes : List ℕ → List ℕ
+in_quotes text = 34 ∷ (text ++ 34 ∷ [])
 
 -- a truth value as the word that TOML has for it
 abbrev pub truth_word : Bool → List ℕ
@@ -57,20 +53,20 @@ abbrev pub admitted_lines : List ℕ → Reservation → Bool → Bool → List 
 admitted_lines name r runnable capped =
     []
     ∷ (codes "[[vcpu]]" ∷ [])
-    ∷ key_words (codes "name") (quoted name)
+    ∷ key_words (codes "name") (in_quotes name)
     ∷ key_words (codes "share_ppm") (decimal r.share_ppm)
     ∷ key_words (codes "latency_ns") (decimal r.latency_ns)
     ∷ key_words (codes "runnable") (truth_word runnable)
     ∷ capped_lines capped
 
 -- a vCPU that isn't admitted has no lines
-abbrev pub vcpu_lines : List ℕ → Option Reservation → Bool → Bool → List Line
-vcpu_lines name None runnable capped = []
-vcpu_lines name (Some r) runnable capped = admitted_lines name r runnable capped
+abbrev pub host_vcpu_lines : List ℕ → Option Reservation → Bool → Bool → List Line
+host_vcpu_lines name None runnable capped = []
+host_vcpu_lines name (Some r) runnable capped = admitted_lines name r runnable capped
 
 -- a vCPU's lines as they are written
 unfoldable pub vcpu_text : Vcpu → List ℕ
-vcpu_text vcpu = text_of (vcpu_lines vcpu.name vcpu.reservation vcpu.runnable vcpu.capped)
+vcpu_text vcpu = text_of (host_vcpu_lines vcpu.name vcpu.reservation vcpu.runnable vcpu.capped)
 
 -- the text of a host whose vCPUs are all admitted
 unfoldable pub host_text : Host → List ℕ

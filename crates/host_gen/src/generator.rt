@@ -1,7 +1,7 @@
 ghost use Rattle.std.specs.Prelude.{◌≡◌, ◌<◌, ◌≤◌, ◌+◌, ◌*◌, IfOk};
 ghost use Rattle.tab_core.specs.declared.TheConstants.{MAX_CORES, MAX_VCPUS};
-ghost use Rattle.host_gen.specs.Generated.{IsGenerated, IsGeneratedVcpu, IsReservationOf, most_percent, name_of};
-ghost use Rattle.host_gen.specs.GeneratorWords.{state_after, word_of};
+ghost use Rattle.host_gen.specs.Generated.{IsGenerated, IsGeneratedReservation, IsGeneratedVcpu, generated_name, most_percent};
+ghost use Rattle.host_gen.specs.GeneratorWords.{state_after, word_of_state};
 ghost use Rattle.host_gen.specs.HostText.{AreAdmitted};
 
 use rand_core::SeedableRng;
@@ -64,9 +64,9 @@ fn most_percent(cores: u32, vcpus: u32) -> u32
 }
 
 // The generator's next word.
-#[tactic(auto, unfolding(crate::specs::GeneratorWords::word_of, crate::specs::GeneratorWords::state_after))]
+#[tactic(auto, unfolding(crate::specs::GeneratorWords::word_of_state, crate::specs::GeneratorWords::state_after))]
 fn take_word(words: &mut SplitMix64) -> u64
-    ensures word { result ≡ word_of words.old }
+    ensures word { result ≡ word_of_state words.old }
     ensures state { words.new ≡ state_after words.old }
 {
     words.next_word()
@@ -94,7 +94,7 @@ fn reservation_of(percent: u32, period: u32) -> Reservation
     requires some { 1 ≤ percent }
     requires whole { percent ≤ 100 }
     requires short { period ≤ 11400 }
-    ensures { IsReservationOf percent period result }
+    ensures { IsGeneratedReservation percent period result }
 {
     let idle = period - period / 100 * percent;
     Reservation {
@@ -106,7 +106,7 @@ fn reservation_of(percent: u32, period: u32) -> Reservation
 // The name of the vCPU of this number.
 fn name_of(alloc: Global, number: u32) -> Result<Name, NoMemory>
     requires { number < MAX_VCPUS }
-    ensures { IfOk result (λ name. name ≡ name_of number) }
+    ensures { IfOk result (λ name. name ≡ generated_name number) }
 {
     let text = format!(in alloc; "v{number}")?;
     match Name::of(alloc, text.as_bytes()) {

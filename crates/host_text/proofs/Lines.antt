@@ -9,13 +9,13 @@ use Rattle.std.specs.List.{list_all, list_any}
 use Rattle.tab_core.specs.Name.{IsName, is_byte_of_name}
 use Rattle.tab_core.specs.declared.TheConstants.{MAX_TICK_NS}
 use Rattle.tab_core.specs.declared.host.Host.{Host}
-use Rattle.tab_words.specs.Texts.{line_of, text_of}
+use Rattle.tab_words.specs.Texts.{Line, line_of, text_of}
 use Rattle.toml_writer.specs.Text.{escaped, encoding_of, has, is_control, key_text, needs_escape, quotes_after, string_text}
 use Rattle.toml.specs.Data.{Data, string, integer, boolean}
 use Rattle.toml.specs.Tables.{Expression, key_value}
 use Rattle.toml.specs.Text.{IsLineText, IsLinesText, IsValueText}
 use Rattle.toml.proofs.Lines.{IsLinesText-append}
-use Rattle.host_gen.specs.HostText.{Line, capped_lines, host_text, key_words, quoted, truth_word, vcpu_text, format_lines, named_tick, number_lines}
+use Rattle.host_gen.specs.HostText.{capped_lines, host_text, key_words, in_quotes, truth_word, vcpu_text, format_lines, named_tick, number_lines}
 use Rattle.host_gen.proofs.HostTextLemmas.{key_line, if_named}
 use Rattle.host_text.proofs.ByteLemmas.{name_bytes}
 use Rattle.host_text.proofs.Statements.{AreNamed, Statement, capped_expressions, head_expressions, settings_expressions, settings_lines, vcpu_expressions, vcpu_of, vcpus_expressions, expressions_with, number_expressions}
@@ -57,7 +57,7 @@ lacks b (c ∷ cs) other all =
     rw (first, lacks b cs other more)
 
 -- a name is written between quotation marks as it is
-pub name_text : (s : List ℕ) → IsName s → string_text s ≡ quoted s
+pub name_text : (s : List ℕ) → IsName s → string_text s ≡ in_quotes s
 unfolding string_text encoding_of
 name_text s good =
     let all = name_bytes s good in
@@ -147,7 +147,7 @@ capped_text false = no_line
 settings_text : (s : Statement) → IsName s.name → AreLines true (settings_expressions s) (settings_lines s)
 unfolding key_text
 settings_text s good =
-    line_and true _ _ _ _ (pair_line true (codes "name") (quoted s.name) (string s.name) refl
+    line_and true _ _ _ _ (pair_line true (codes "name") (in_quotes s.name) (string s.name) refl
     (sym (name_text s.name good)))
     (line_and true _ _ _ _ (number_line true (codes "share_ppm") s.reservation.share_ppm refl (omega arith))
     (line_and true _ _ _ _

@@ -11,14 +11,14 @@ use Rattle.tab_core.specs.declared.TheConstants.{MAX_VCPUS}
 use Rattle.tab_core.specs.declared.host.Host.{Host}
 use Rattle.tab_core.specs.declared.vcpu.Vcpu.{Vcpu}
 use Rattle.tab_words.specs.Sections.{sections_of}
-use Rattle.tab_words.specs.Texts.{line_of, text_of}
+use Rattle.tab_words.specs.Texts.{Line, line_of, text_of}
 use Rattle.toml.specs.Parse.{parse_document, skip_bom}
 use Rattle.toml.specs.Tables.{Expression, no_nodes}
 use Rattle.toml.proofs.ReadLines.{AllPrinted, read_lines}
 use Rattle.toml.proofs.Turns.{document_some}
 use Rattle.host_doc.specs.Document.{IsHostText}
 use Rattle.host_gen.specs.Generated.{IsGenerated, most_percent}
-use Rattle.host_gen.specs.HostText.{host_text, Line, format_lines, named_tick, number_lines, vcpu_text}
+use Rattle.host_gen.specs.HostText.{host_text, format_lines, named_tick, number_lines, vcpu_text}
 use Rattle.host_gen.proofs.GeneratedLemmas.{admitted, distinct, is_good_name, none_capped}
 use Rattle.host_text.specs.Admitted.{IsAdmittedHost}
 use Rattle.host_text.proofs.AsciiLemmas.{host_ascii}

@@ -11,11 +11,11 @@ use Rattle.tab_core.specs.declared.host.Host.{Host}
 use Rattle.tab_words.specs.Lines.{raw_lines_of}
 use Rattle.tab_words.specs.Sections.{is_separator, sections_of}
 use Rattle.tab_words.proofs.LineLemmas.{raw_lines_of-line}
-use Rattle.tab_words.specs.Texts.{line_of, text_of}
-use Rattle.tab_words.specs.Inside.Fronts.{behind}
+use Rattle.tab_words.specs.Texts.{Line, line_of, text_of}
+use Rattle.tab_words.specs.Inside.Fronts.{sections_after}
 use Rattle.tab_words.proofs.SectionLemmas.{sections_of-nil, sections_of-row}
 use Rattle.tab_words.proofs.TextLemmas.{decimal_word, is_plain}
-use Rattle.host_gen.specs.HostText.{Line, capped_lines, head_lines, host_text, key_words, quoted, truth_word, vcpu_text, format_lines, named_tick, number_lines}
+use Rattle.host_gen.specs.HostText.{capped_lines, head_lines, host_text, key_words, in_quotes, truth_word, vcpu_text, format_lines, named_tick, number_lines}
 use Rattle.host_gen.proofs.HostTextLemmas.{key_line, if_named}
 use Rattle.host_text.proofs.ByteLemmas.{name_bytes, weaker}
 use Rattle.host_text.proofs.Statements.{AreNamed, Statement, settings_lines, vcpu_of}
@@ -33,7 +33,7 @@ digits_inside n low =
     (and_parts (nat_lt 0 (length (decimal n))) (list_all is_plain (decimal n)) (decimal_word n low)).1
 
 -- a name between quotation marks
-name_inside : (name : List ℕ) → IsName name → list_all is_inside (quoted name) ≡ true
+name_inside : (name : List ℕ) → IsName name → list_all is_inside (in_quotes name) ≡ true
 name_inside name good =
     list_all-append is_inside name (34 ∷ [])
     ∙ rw (weaker is_byte_of_name is_inside (λ b h. grind (arith, nat_tests)) name (name_bytes name good))
@@ -61,7 +61,7 @@ line_more : (line rest : List ℕ) → list_all is_inside line ≡ true → is_s
     → IsOneSection rest → IsOneSection (line ++ 10 ∷ rest)
 line_more line rest all other one =
     sections_of-row (line ++ 10 ∷ rest) (line ++ 10 ∷ []) rest (line_cut line rest all) other
-    ∙ ap (behind (line ++ 10 ∷ [])) one
+    ∙ ap (sections_after (line ++ 10 ∷ [])) one
     ∙ ap (λ bytes. bytes ∷ []) (append_assoc line (10 ∷ []) rest)
 
 -- the lines leave one section one, whatever it is
@@ -132,7 +132,7 @@ settings_keep : (s : Statement) → IsName s.name → KeepsSection (settings_lin
 settings_keep s good =
     let share = s.reservation.share_ppm in
     let latency = s.reservation.latency_ns in
-    line_and _ _ (pair_line (codes "name") (quoted s.name) refl (name_inside s.name good) refl)
+    line_and _ _ (pair_line (codes "name") (in_quotes s.name) refl (name_inside s.name good) refl)
     (line_and _ _
     (pair_line (codes "share_ppm") (decimal share) refl (digits_inside share (omega arith)) refl)
     (line_and _ _

@@ -10,7 +10,8 @@ use Rattle.tab_core.specs.declared.reservation.Reservation.{Reservation}
 use Rattle.tab_core.specs.declared.vcpu.Vcpu.{Vcpu}
 use Rattle.toml.specs.Data.{Data, string, integer, boolean, array, table, Items, no_items, item, Members, no_members, member}
 use Rattle.toml.specs.Tables.{Expression, key_value, array_table}
-use Rattle.host_gen.specs.HostText.{AreAdmitted, Line, capped_lines, key_words, quoted, truth_word, named_tick}
+use Rattle.tab_words.specs.Texts.{Line}
+use Rattle.host_gen.specs.HostText.{AreAdmitted, capped_lines, key_words, in_quotes, truth_word, named_tick}
 
 -- what is stated of an admitted vCPU
 pub record Statement : Type 0 where
@@ -179,7 +180,7 @@ vcpus_expressions (s ∷ ss) = vcpu_expressions s ++ vcpus_expressions ss
 -- the lines of an admitted vCPU after its header
 abbrev pub settings_lines : Statement → List Line
 settings_lines s =
-    key_words (codes "name") (quoted s.name)
+    key_words (codes "name") (in_quotes s.name)
     ∷ key_words (codes "share_ppm") (decimal s.reservation.share_ppm)
     ∷ key_words (codes "latency_ns") (decimal s.reservation.latency_ns)
     ∷ key_words (codes "runnable") (truth_word s.runnable)

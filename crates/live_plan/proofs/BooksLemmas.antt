@@ -18,7 +18,7 @@ use Rattle.table_form.specs.Running.Outlines.{IsOutline, outline_view}
 use Rattle.plan_make.specs.Planned.{IsPlanned}
 use Rattle.plan_book.specs.Courses.{ticks_of}
 use Rattle.plan_book.proofs.CourseOfBook.{ticks_rise}
-use Rattle.live_plan.specs.Books.{IsLive, IsLiveBookOf, LiveView, after_act, after_events, edits_in, with_change}
+use Rattle.live_plan.specs.Books.{IsLive, IsLiveBookOf, LiveView, after_act, after_events, edits_in, with_edits}
 
 -- ---- runnable vCPUs
 
@@ -37,7 +37,7 @@ runnable_more runnable events n event at =
 -- ---- edits
 
 -- the changes of an event come before those after it
-with_change-append : (act : Act) (xs ys : List (List Edit)) → with_change act (xs ++ ys) ≡ with_change act xs ++ ys
+with_change-append : (act : Act) (xs ys : List (List Edit)) → with_edits act (xs ++ ys) ≡ with_edits act xs ++ ys
 with_change-append (Wake vcpu) xs ys = refl
 with_change-append (Block vcpu) xs ys = refl
 with_change-append (Change edits) xs ys = refl
@@ -45,15 +45,15 @@ with_change-append (Burst vcpu work) xs ys = refl
 
 -- one event more
 edits_push : (events : List Event) (n : ℕ) (event : Event) → slice_get events n ≡ Some event
-    → edits_in (take (suc n) events) ≡ edits_in (take n events) ++ with_change event.act []
+    → edits_in (take (suc n) events) ≡ edits_in (take n events) ++ with_edits event.act []
 edits_push [] n event at = absurd cc
-edits_push (first ∷ events) zero event at = ap (λ (e : Event). with_change e.act []) (let is : first ≡ event = cc in is)
+edits_push (first ∷ events) zero event at = ap (λ (e : Event). with_edits e.act []) (let is : first ≡ event = cc in is)
 edits_push (first ∷ events) (suc n) event at =
-    ap (with_change first.act) (edits_push events n event at)
-    ∙ with_change-append first.act (edits_in (take n events)) (with_change event.act [])
+    ap (with_edits first.act) (edits_push events n event at)
+    ∙ with_change-append first.act (edits_in (take n events)) (with_edits event.act [])
 
 pub edits_more : (events : List Event) (n : ℕ) (event : Event) → slice_get events n ≡ Some event
-    → edits_in (take (n + 1) events) ≡ edits_in (take n events) ++ with_change event.act []
+    → edits_in (take (n + 1) events) ≡ edits_in (take n events) ++ with_edits event.act []
 edits_more events n event at =
     let next : n + 1 ≡ suc n = omega arith in rw next (edits_push events n event at)
 
@@ -63,7 +63,7 @@ count_edits events = is_count_by (λ (es : List Event). length (edits_in es)) (�
     (λ event rest. by_act event.act (edits_in rest)) events
   where
     by_act : (act : Act) (changes : List (List Edit))
-        → length (with_change act changes) ≡ cond (is_change act) (1 + length changes) (length changes)
+        → length (with_edits act changes) ≡ cond (is_change act) (1 + length changes) (length changes)
     by_act (Wake vcpu) changes = refl
     by_act (Block vcpu) changes = refl
     by_act (Change edits) changes = omega arith
@@ -84,7 +84,7 @@ edits_within count (first ∷ events) within =
     (edits_within count events (All-tail (λ (e : Event). IsActWithin count e.act) first events within))
   where
     by_act : (act : Act) → IsActWithin count act → All (AreEditsOf count) (edits_in events)
-        → All (AreEditsOf count) (with_change act (edits_in events))
+        → All (AreEditsOf count) (with_edits act (edits_in events))
     by_act (Wake vcpu) here rest = rest
     by_act (Block vcpu) here rest = rest
     by_act (Change edits) here rest = All-cons (AreEditsOf count) edits (edits_in events) here rest

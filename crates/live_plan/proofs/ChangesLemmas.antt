@@ -9,11 +9,11 @@ use Rattle.tab_core.proofs.Lists.{same}
 use Rattle.plan_make.specs.Planned.{IsPlanned}
 use Rattle.plan_book.proofs.EditedLemmas.{edited_unique, same_count}
 use Rattle.plan_book.proofs.OneState.{planned_or_unplanned}
-use Rattle.live_plan.specs.Changes.{Becomes, HostAfter, IsEditedBy, IsRefused, IsTaken}
+use Rattle.live_plan.specs.Changes.{Becomes, HostAfter, IsEditRefused, IsEditTaken, IsEditedBy}
 
 -- no change is both planned and refused
-taken_or_refused : (before : Host) (edits : List Edit) (a b : Host) → IsTaken before edits a
-    → IsRefused before edits b → ⊥
+taken_or_refused : (before : Host) (edits : List Edit) (a b : Host) → IsEditTaken before edits a
+    → IsEditRefused before edits b → ⊥
 taken_or_refused before edits a b taken refused =
     let host = edited_unique before edits a refused.host taken.edited refused.edited in
     planned_or_unplanned refused.host taken.plan refused.outcome

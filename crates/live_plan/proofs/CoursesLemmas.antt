@@ -19,7 +19,7 @@ use Rattle.plan_book.specs.Courses.{IsCourseOf}
 use Rattle.plan_book.specs.States.{BookState}
 use Rattle.plan_book.proofs.PlannedAfter.{known_planned}
 use Rattle.plan_book.proofs.SameShape.{changes_more}
-use Rattle.live_plan.specs.Books.{IsLiveBookOf, LiveView, after_act, after_events, changes_before, edits_in, with_change}
+use Rattle.live_plan.specs.Books.{IsLiveBookOf, LiveView, after_act, after_events, changes_before, edits_in, with_edits}
 use Rattle.live_plan.specs.Changes.{HostAfter}
 use Rattle.live_plan.specs.Courses.{IsLiveCourse}
 use Rattle.live_plan.proofs.BooksLemmas.{runnable_more}
@@ -32,13 +32,13 @@ edits_at [] n event edits at is = absurd cc
 edits_at (first ∷ events) zero event edits at is =
     let same : first ≡ event = cc in
     let act : first.act ≡ Change edits = ap (λ (e : Event). e.act) same ∙ is in
-    ap (λ (a : Act). slice_get (with_change a (edits_in events)) 0) act
+    ap (λ (a : Act). slice_get (with_edits a (edits_in events)) 0) act
 edits_at (first ∷ events) (suc n) event edits at is =
     rw (sum_by-cons (λ (e : Event). cond (is_change e.act) 1 0) first (take n events))
     (by_act first.act (edits_at events n event edits at is))
   where
     by_act : (act : Act) → slice_get (edits_in events) (changes_in (take n events)) ≡ Some edits
-        → slice_get (with_change act (edits_in events)) (cond (is_change act) 1 0 + changes_in (take n events)) ≡ Some edits
+        → slice_get (with_edits act (edits_in events)) (cond (is_change act) 1 0 + changes_in (take n events)) ≡ Some edits
     by_act (Wake vcpu) at' = let none : 0 + changes_in (take n events) ≡ changes_in (take n events) = omega arith in
         ap (slice_get (edits_in events)) none ∙ at'
     by_act (Block vcpu) at' = let none : 0 + changes_in (take n events) ≡ changes_in (take n events) = omega arith in

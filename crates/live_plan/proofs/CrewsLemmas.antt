@@ -16,22 +16,22 @@ use Rattle.crew_turns.specs.declared.player.Player.{Player}
 use Rattle.crew_turns.specs.Going.{SameActors}
 use Rattle.crew_turns.specs.Troops.{AllHaveEnded, AreAgreed, AreHeld, AreSame}
 use Rattle.dispatch_core.specs.Parts.{used_counts}
-use Rattle.dispatch_core.specs.States.{Stands, StateView}
+use Rattle.dispatch_core.specs.States.{AgreesWithoutPlan, StateView}
 use Rattle.plan_switch.specs.Controllers.{HasPosted}
-use Rattle.board_state.specs.Readings.{state_of}
-use Rattle.board_state.specs.RunViews.{IsFinished, IsRunView}
-use Rattle.board_state.proofs.FinishedLemmas.{counts_used, view_complete}
-use Rattle.board_state.proofs.RunViewLemmas.{view_kept}
-use Rattle.board_state.proofs.ViewLemmas.{IsAgreedBy, finished_view, run_view}
-use Rattle.core_workers.specs.Crews.{HasFinished, IsFresh}
+use Rattle.run_state.specs.Readings.{state_of}
+use Rattle.run_state.specs.RunViews.{IsFinished, IsRunView}
+use Rattle.run_state.proofs.FinishedLemmas.{counts_used, view_complete}
+use Rattle.run_state.proofs.RunViewLemmas.{view_kept}
+use Rattle.run_state.proofs.ViewLemmas.{IsAgreedBy, finished_view, run_view}
+use Rattle.core_workers.specs.Crews.{HasFinished, IsNewView}
 use Rattle.live_plan.specs.declared.maker.Maker.{Maker}
 use Rattle.live_plan.specs.Actors.{LiveActorView, LiveAgrees}
 use Rattle.live_plan.specs.Books.{LiveView}
 use Rattle.live_plan.specs.Courses.{IsLiveCourse}
-use Rattle.live_plan.specs.Crews.{AllAgree, CrewView, HaveFinished, HoldsAll, IsCrewOf, IsMakerOf, actor_in, actor_of, bare, crew_view}
+use Rattle.live_plan.specs.Crews.{HaveFinished, HoldsLiveCrew, IsCrewOf, IsMakerOf, LiveCrewAgrees, LiveCrewView, actor_in, bare, live_actor_of, live_crew_view}
 use Rattle.live_plan.specs.Inside.Crewing.{AreNewMembers, IsNewMember}
-use Rattle.live_plan.specs.PlayerLaws.{core_lawful, lead_lawful}
-use Rattle.live_plan.specs.Players.{LeadView, MemberView, core_kind, lead_kind}
+use Rattle.live_plan.specs.PlayerLaws.{live_core_lawful, live_lead_lawful}
+use Rattle.live_plan.specs.Players.{LeadView, MemberView, live_core_kind, live_lead_kind}
 
 -- the player of an actor
 pub member_of : (o : Option (Player MemberView)) (a : LiveActorView) → actor_in o ≡ Some a → (p : Player MemberView) × (o ≡ Some p) × (p.actor.actor ≡ a)
@@ -50,7 +50,7 @@ new_more b rounds ps p are new i x at = elim (push_split ps i p x at) [
 
 module _ (b : LiveView) (rounds : ℕ) (members : List (Player MemberView)) (lead : Player LeadView) (maker : Maker)
     (new : AreNewMembers b rounds members) (count : length members ≡ b.outline.cores) where
-  pub crew_made : FitsRounds (bare b) rounds → lead.actor.book ≡ b → IsMakerOf b maker → IsCrewOf b (crew_view rounds members lead maker)
+  pub crew_made : FitsRounds (bare b) rounds → lead.actor.book ≡ b → IsMakerOf b maker → IsCrewOf b (live_crew_view rounds members lead maker)
   crew_made fits lead_is made = record {
     fits = fits;
     cores = count;
@@ -59,8 +59,8 @@ module _ (b : LiveView) (rounds : ℕ) (members : List (Player MemberView)) (lea
     maker = made;
   }
 
-  pub agree_made : (v : View) → IsFresh (bare b) v → (holds v controller ≡ true → HasPosted b.outline lead.actor.control v)
-      → AllAgree b (crew_view rounds members lead maker) v
+  pub agree_made : (v : View) → IsNewView (bare b) v → (holds v controller ≡ true → HasPosted b.outline lead.actor.control v)
+      → LiveCrewAgrees b (live_crew_view rounds members lead maker) v
   agree_made v fresh control = record {
     cores = λ c a at has. (let p = member_of (slice_get members c) a at in
         let core : HoldsCore v c = (omega (arith, slice_get_within members c p.0 p.1, count, fresh.started.cores_are), has) in
@@ -74,8 +74,8 @@ none_more None P Q f p = f p
 none_more (Some x) P Q f p = p
 
 -- a crew starts to work
-pub held_crew : (b : LiveView) (crew : CrewView) (v : View) → b.outline.cores ≤ 32 → IsCrewOf b crew → AllAgree b crew v → HoldsAll crew v
-    → AreHeld core_kind lead_kind crew.members crew.lead v
+pub held_crew : (b : LiveView) (crew : LiveCrewView) (v : View) → b.outline.cores ≤ 32 → IsCrewOf b crew → LiveCrewAgrees b crew v → HoldsLiveCrew crew v
+    → AreHeld live_core_kind live_lead_kind crew.members crew.lead v
 held_crew b crew v few is agree all = record {
   troop = record {
     few = omega (arith, few, is.cores);
@@ -92,9 +92,9 @@ held_crew b crew v few is agree all = record {
 
 -- its players go on
 module _ (b : LiveView) (members members' : List (Player MemberView)) (lead lead' : Player LeadView)
-    (same : AreSame core_kind lead_kind members lead members' lead') where
-  pub crew_on : (rounds : ℕ) (maker maker' : Maker) → IsCrewOf b (crew_view rounds members lead maker) → IsMakerOf b maker'
-      → IsCrewOf b (crew_view rounds members' lead' maker')
+    (same : AreSame live_core_kind live_lead_kind members lead members' lead') where
+  pub crew_on : (rounds : ℕ) (maker maker' : Maker) → IsCrewOf b (live_crew_view rounds members lead maker) → IsMakerOf b maker'
+      → IsCrewOf b (live_crew_view rounds members' lead' maker')
   crew_on rounds maker maker' is made = record {
     fits = is.fits;
     cores = same.count ∙ is.cores;
@@ -107,18 +107,18 @@ module _ (b : LiveView) (members members' : List (Player MemberView)) (lead lead
   }
 
   -- the view still holds their parts
-  pub held_on : (v w : View) → AreHeld core_kind lead_kind members lead v → SameActors v w → AreAgreed core_kind lead_kind members' lead' w
-      → AreHeld core_kind lead_kind members' lead' w
+  pub held_on : (v w : View) → AreHeld live_core_kind live_lead_kind members lead v → SameActors v w → AreAgreed live_core_kind live_lead_kind members' lead' w
+      → AreHeld live_core_kind live_lead_kind members' lead' w
   held_on v w held actors agreed = record {
     troop = agreed.troop;
     each = λ i q at. (let p = element_at members i (omega (arith, slice_get_within members' i q at, same.count)) in
         agreed.each i q at (actors.actors i ∙ subst (λ (k : ℕ). holds v k ≡ true) (held.troop.each i p.0 p.1)
-        (core_lawful.held p.0.actor v (held.each i p.0 p.1))));
-    control_agrees = agreed.control_agrees (actors.actors controller ∙ lead_lawful.held lead.actor v held.control_agrees);
+        (live_core_lawful.held p.0.actor v (held.each i p.0 p.1))));
+    control_agrees = agreed.control_agrees (actors.actors controller ∙ live_lead_lawful.held lead.actor v held.control_agrees);
   }
 
-pub held_agreed : (members : List (Player MemberView)) (lead : Player LeadView) (v : View) → AreHeld core_kind lead_kind members lead v
-    → AreAgreed core_kind lead_kind members lead v
+pub held_agreed : (members : List (Player MemberView)) (lead : Player LeadView) (v : View) → AreHeld live_core_kind live_lead_kind members lead v
+    → AreAgreed live_core_kind live_lead_kind members lead v
 held_agreed members lead v held = record {
   troop = held.troop;
   each = λ i p at has. held.each i p at;
@@ -126,33 +126,33 @@ held_agreed members lead v held = record {
 }
 
 -- a crew that comes back: the view holds all parts, and all have ended but where memory ran out for a change
-pub record ComesBack (b : LiveView) (crew : CrewView) (w : View) (stopped : Option ℕ) : Type 0 where
+pub record ComesBack (b : LiveView) (crew : LiveCrewView) (w : View) (stopped : Option ℕ) : Type 0 where
   pub is : IsCrewOf b crew
-  pub held : AreHeld core_kind lead_kind crew.members crew.lead w
-  pub ended : IfNone stopped (AllHaveEnded core_kind lead_kind crew.members crew.lead w)
+  pub held : AreHeld live_core_kind live_lead_kind crew.members crew.lead w
+  pub ended : IfNone stopped (AllHaveEnded live_core_kind live_lead_kind crew.members crew.lead w)
 
 -- its players went on by workers, and then all together
 module _ (b : LiveView) (rounds : ℕ) (first mid last : List (Player MemberView)) (lead mid_lead last_lead : Player LeadView) (maker maker' : Maker)
-    (u w : View) (stopped : Option ℕ) (is : IsCrewOf b (crew_view rounds first lead maker)) (made : IsMakerOf b maker') where
-  pub comes_back : (back : List (Player MemberView)) → back ≡ last → AreSame core_kind lead_kind first lead mid mid_lead
-      → AreHeld core_kind lead_kind mid mid_lead u → AreSame core_kind lead_kind mid mid_lead last last_lead → SameActors u w
-      → AreAgreed core_kind lead_kind last last_lead w → IfNone stopped (AllHaveEnded core_kind lead_kind last last_lead w)
-      → ComesBack b (crew_view rounds back last_lead maker') w stopped
-  comes_back back back_is one held two actors agreed ended = subst (λ (ps : List (Player MemberView)). ComesBack b (crew_view rounds ps last_lead maker') w stopped) (sym back_is) (record {
+    (u w : View) (stopped : Option ℕ) (is : IsCrewOf b (live_crew_view rounds first lead maker)) (made : IsMakerOf b maker') where
+  pub comes_back : (back : List (Player MemberView)) → back ≡ last → AreSame live_core_kind live_lead_kind first lead mid mid_lead
+      → AreHeld live_core_kind live_lead_kind mid mid_lead u → AreSame live_core_kind live_lead_kind mid mid_lead last last_lead → SameActors u w
+      → AreAgreed live_core_kind live_lead_kind last last_lead w → IfNone stopped (AllHaveEnded live_core_kind live_lead_kind last last_lead w)
+      → ComesBack b (live_crew_view rounds back last_lead maker') w stopped
+  comes_back back back_is one held two actors agreed ended = subst (λ (ps : List (Player MemberView)). ComesBack b (live_crew_view rounds ps last_lead maker') w stopped) (sym back_is) (record {
     is = crew_on b mid last mid_lead last_lead two rounds maker' maker' (crew_on b first mid lead mid_lead one rounds maker maker' is made) made;
     held = held_on b mid last mid_lead last_lead two u w held actors agreed;
     ended = ended;
   })
 
 -- a crew ends its work
-module _ (b : LiveView) (crew : CrewView) (v : View) (is : IsCrewOf b crew) (held : AreHeld core_kind lead_kind crew.members crew.lead v) where
+module _ (b : LiveView) (crew : LiveCrewView) (v : View) (is : IsCrewOf b crew) (held : AreHeld live_core_kind live_lead_kind crew.members crew.lead v) where
   agrees_at : (c : ℕ) (p : Player MemberView) → slice_get crew.members c ≡ Some p → LiveAgrees b p.actor.actor.state v
   agrees_at c p at = subst (λ (k : LiveView). LiveAgrees k p.actor.actor.state v) (is.members c p at).book_is (held.each c p at).agrees
 
   controls : HasPosted b.outline crew.lead.actor.control v
   controls = subst (λ (k : LiveView). HasPosted k.outline crew.lead.actor.control v) is.lead held.control_agrees
 
-  pub agree_back : AllAgree b crew v
+  pub agree_back : LiveCrewAgrees b crew v
   agree_back = record {
     cores = λ c a at has. (let p = member_of (slice_get crew.members c) a at in
         subst (λ (x : LiveActorView). LiveAgrees b x.state v) p.2 (agrees_at c p.0 p.1));
@@ -162,14 +162,14 @@ module _ (b : LiveView) (crew : CrewView) (v : View) (is : IsCrewOf b crew) (hel
   held_core : (c : ℕ) (p : Player MemberView) → slice_get crew.members c ≡ Some p → holds v c ≡ true
   held_core c p at = subst (λ (k : ℕ). holds v k ≡ true) (is.members c p at).core (held.each c p at).agrees.stands.core.1
 
-  pub holds_back : HoldsAll crew v
+  pub holds_back : HoldsLiveCrew crew v
   holds_back = record {
     cores = λ c lt. (let p = element_at crew.members c lt in held_core c p.0 p.1);
     control = controls.holds_it;
   }
 
   -- each core has ended, and the controller has posted all
-  module _ (ended : AllHaveEnded core_kind lead_kind crew.members crew.lead v) where
+  module _ (ended : AllHaveEnded live_core_kind live_lead_kind crew.members crew.lead v) where
     core_over : (c : ℕ) (p : Player MemberView) → slice_get crew.members c ≡ Some p → HasFinished p.actor.actor.state
     core_over c p at = ended.cores_have c p at (held_core c p at)
 
@@ -198,7 +198,7 @@ module _ (b : LiveView) (crew : CrewView) (v : View) (is : IsCrewOf b crew) (hel
             core_is = member.core;
             rounds_are = member.rounds_is;
             agrees = record {
-              stands = subst (λ (o : OutlineView). Stands o p.0.actor.actor.state v) (sym live.outline) agrees.stands;
+              stands = subst (λ (o : OutlineView). AgreesWithoutPlan o p.0.actor.actor.state v) (sym live.outline) agrees.stands;
               plans = agrees.plans course live;
             };
           },
@@ -216,7 +216,7 @@ module _ (b : LiveView) (crew : CrewView) (v : View) (is : IsCrewOf b crew) (hel
     pub promises : IsCourse course → KeepsPromises course crew.rounds (state_of course v)
     promises ok = promised course crew.rounds (state_of course v) ok kept
 
-    module _ (ended : AllHaveEnded core_kind lead_kind crew.members crew.lead v) where
+    module _ (ended : AllHaveEnded live_core_kind live_lead_kind crew.members crew.lead v) where
       over : IsFinished crew.rounds v
       over = finished_view course crew.rounds v crew.lead.actor.control
           (λ c lt. let s = agreed c lt in let p = at_core c lt in (s.0, s.1, core_over ended c p.0 p.1))
@@ -225,7 +225,7 @@ module _ (b : LiveView) (crew : CrewView) (v : View) (is : IsCrewOf b crew) (hel
       pub complete : IsComplete course crew.rounds (state_of course v)
       complete = view_complete course crew.rounds v run over
 
-      pub counts : (c : ℕ) (a : LiveActorView) → actor_of crew c ≡ Some a → a.state.used ≡ (state_of course v).decided
+      pub counts : (c : ℕ) (a : LiveActorView) → live_actor_of crew c ≡ Some a → a.state.used ≡ (state_of course v).decided
       counts c a at =
           let p = member_of (slice_get crew.members c) a at in
           let agrees = agrees_at c p.0 p.1 in

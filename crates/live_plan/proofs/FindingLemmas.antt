@@ -12,7 +12,7 @@ use Rattle.live_plan.specs.declared.made.Found.TheVariants.{Planned, Refused, No
 use Rattle.live_plan.specs.Books.{IsMadeFor, LiveView}
 use Rattle.live_plan.specs.Changes.{HostAfter}
 use Rattle.live_plan.specs.Finding.{IsFoundOf, is_stopped}
-use Rattle.live_plan.specs.Inside.Making.{IsFoundNext, IsPlannedNext, IsRefusedNext}
+use Rattle.live_plan.specs.Inside.Making.{IsChangeRefusedNext, IsFoundNext, IsPlannedNext}
 use Rattle.live_plan.specs.Mades.{MadeView}
 use Rattle.live_plan.proofs.ChangesLemmas.{after_size, edited_by_of_first}
 
@@ -26,7 +26,7 @@ planned_after host changes k before edits plan next stands at is =
 -- one that was refused to the host that was known
 pub refused_after : (host : Host) (changes : List (List Edit)) (k : ℕ) (before : Host) (edits : List Edit) (outcome : Outcome)
     (next : Host) → HostAfter host changes k before → slice_get changes k ≡ Some edits
-    → IsRefusedNext before edits outcome next → HostAfter host changes (suc k) next
+    → IsChangeRefusedNext before edits outcome next → HostAfter host changes (suc k) next
 refused_after host changes k before edits outcome next stands at is = (
   before,
   edits,
@@ -45,7 +45,7 @@ refused_after host changes k before edits outcome next stands at is = (
 pub made_after : (host : Host) (changes : List (List Edit)) (k : ℕ) (before : Host) (edits : List Edit)
     (made : Result Plan Outcome) (next : Host) → HostAfter host changes k before → slice_get changes k ≡ Some edits
     → IfOk made (λ plan. IsPlannedNext before edits (plan_view plan) next)
-    → IfErr made (λ outcome. IsRefusedNext before edits outcome next) → HostAfter host changes (suc k) next
+    → IfErr made (λ outcome. IsChangeRefusedNext before edits outcome next) → HostAfter host changes (suc k) next
 made_after host changes k before edits (Ok plan) next stands at planned refused =
     planned_after host changes k before edits (plan_view plan) next stands at planned
 made_after host changes k before edits (Err outcome) next stands at planned refused =

@@ -27,7 +27,7 @@ use Rattle.live_plan.specs.Actors.{LiveActorView, LiveAgrees}
 use Rattle.live_plan.specs.Books.{LiveView}
 use Rattle.live_plan.specs.Controls.{LiveControlTold}
 use Rattle.live_plan.specs.Crews.{bare}
-use Rattle.live_plan.specs.Players.{CoreAgrees, LeadView, MemberView, core_kind, lead_kind, lead_view, member_view}
+use Rattle.live_plan.specs.Players.{LeadView, LiveCoreAgrees, MemberView, lead_view, live_core_kind, live_lead_kind, member_view}
 use Rattle.live_plan.specs.PlayerLaws.{live_part}
 use Rattle.live_plan.specs.Shelves.{ShelfView}
 use Rattle.live_plan.specs.Told.{LiveTold, NeedsChange}
@@ -54,7 +54,7 @@ lead_turn (lead.Stopped change) = turn.Stopped
 lead_turn lead.Finished = turn.Ended
 
 -- a core's step
-module _ (m : MemberView) (n : LiveActorView) (v w : View) (s t : ShelfView) (agrees : CoreAgrees m v) (now : LiveAgrees m.book n.state w)
+module _ (m : MemberView) (n : LiveActorView) (v w : View) (s t : ShelfView) (agrees : LiveCoreAgrees m v) (now : LiveAgrees m.book n.state w)
     (same : IsSameCore m.actor.state n.state) (changes : ChangesOnly v w m.actor.state.core) where
   abbrev c : ℕ
   c = m.actor.state.core
@@ -83,7 +83,7 @@ module _ (m : MemberView) (n : LiveActorView) (v w : View) (s t : ShelfView) (ag
   clock_stays : IsQuiet v w → n.state.clock ≡ m.actor.state.clock
   clock_stays quiet = clock_now ∙ (quiet.clocks c ∙ sym agrees.agrees.stands.clock)
 
-  still : (tick : ℕ) → IsQuiet v w → Stepped core_kind m v (turn.Waits tick) (member_view m.book n) w
+  still : (tick : ℕ) → IsQuiet v w → Stepped live_core_kind m v (turn.Waits tick) (member_view m.book n) w
   still tick quiet = (clock_stays quiet, quiet, tt)
 
   needs_quiet : (change : ℕ) → NeedsChange m.book rounds c v change w → IsQuiet v w
@@ -94,7 +94,7 @@ module _ (m : MemberView) (n : LiveActorView) (v w : View) (s t : ShelfView) (ag
   waits_quiet (Core d) tick goes = low_quiet o c v w changes goes.0 goes.1 goes.2.enters d tick goes.3
 
   pub core_told : (answer : LiveAnswer) → LiveTold m.book rounds c v s answer w t
-      → Stepped core_kind m v (core_turn answer) (member_view m.book n) w
+      → Stepped live_core_kind m v (core_turn answer) (member_view m.book n) w
   core_told (Ran stint) told = let goes = told.goes in
       omega (arith, later o c v w changes goes.0 goes.1 goes.2.enters stint goes.3, agrees.agrees.stands.clock, clock_now)
   core_told (Behind who tick) told = still tick (waits_quiet who tick told.0.step.goes)
@@ -120,7 +120,7 @@ module _ (k : LeadView) (l : ControlState) (v w : View) (s t : ShelfView) (was :
   lead_goes lead.Finished told = lead_parts (bare k.book) n v w control.Finished changes told
 
   -- where nothing happened
-  nothing : (tick : ℕ) → w ≡ v → Stepped lead_kind k v (turn.Waits tick) (lead_view k.book l) w
+  nothing : (tick : ℕ) → w ≡ v → Stepped live_lead_kind k v (turn.Waits tick) (lead_view k.book l) w
   nothing tick is = (
     now.posted ∙ (ap (λ (u : View). length (part u controller).floors) is ∙ sym was.posted),
     subst (IsQuiet v) (sym is) (quiet_none v),
@@ -128,7 +128,7 @@ module _ (k : LeadView) (l : ControlState) (v w : View) (s t : ShelfView) (was :
   )
 
   pub lead_told : (answer : LiveControl) → LiveControlTold k.book n v s answer w t
-      → Stepped lead_kind k v (lead_turn answer) (lead_view k.book l) w
+      → Stepped live_lead_kind k v (lead_turn answer) (lead_view k.book l) w
   lead_told (lead.Posted count) told = lead_stepped (bare k.book) k.control l v w (control.Posted count) was now changes told.0
   lead_told (lead.Behind core tick) told =
       let step = lead_stepped (bare k.book) k.control l v w (control.Behind core tick) was now changes told in (step.0, step.1, tt)

@@ -14,27 +14,27 @@ use Rattle.round_words.specs.Views.{last_of, part, sees}
 use Rattle.round_words.proofs.ListLemmas.{last_of-push}
 use Rattle.dispatch_core.specs.declared.answer.Begun.TheVariants as start
 use Rattle.dispatch_core.specs.Parts.{used_counts}
-use Rattle.dispatch_core.specs.States.{FollowsPlans, HasBegun, Stands, StateView}
+use Rattle.dispatch_core.specs.States.{AgreesWithoutPlan, FollowsPlans, HasBegun, StateView}
 use Rattle.dispatch_core.specs.Told.{BeginsStep, BegunTold, LacksEvent}
 use Rattle.dispatch_core.proofs.EntryLemmas.{used_at}
 use Rattle.dispatch_core.proofs.PartLemmas.{entered_same}
 use Rattle.dispatch_core.proofs.ToldLemmas.{low_told}
 use Rattle.live_plan.specs.declared.answer.LiveAnswer.{LiveAnswer}
 use Rattle.live_plan.specs.declared.answer.LiveAnswer.TheVariants.{Ran, Behind, NotMade, Stopped, Finished}
-use Rattle.live_plan.specs.Actors.{IsActorOf, LiveActorView, LiveAgrees, live_actor_view}
+use Rattle.live_plan.specs.Actors.{IsLiveActorOf, LiveActorView, LiveAgrees, live_actor_view}
 use Rattle.live_plan.specs.Asking.{IsBeyond, LooksBeyond, Needs}
 use Rattle.live_plan.specs.Books.{LiveView, changes_before}
-use Rattle.live_plan.specs.Inside.Finishing.{FinishTold, WaitTold, WaitsForCore}
+use Rattle.live_plan.specs.Inside.Finishing.{LiveFinishTold, WaitTold, WaitsForCore}
 use Rattle.live_plan.specs.Shelves.{Grows, ShelfView}
 use Rattle.live_plan.specs.Told.{LiveTold, NeedsChange, WaitsFor}
 use Rattle.live_plan.proofs.ShelvesLemmas.{missed_since}
 
 -- a core that waits for a core looked beyond what it saw
 pub waits_told : (b : LiveView) (c seen used d tick : ℕ) (v w : View) (s t : ShelfView) (answer : LiveAnswer)
-    → WaitsForCore b c v d tick w → WaitTold b seen (Core d) tick s answer t → FinishTold b c seen used v s answer w t
+    → WaitsForCore b c v d tick w → WaitTold b seen (Core d) tick s answer t → LiveFinishTold b c seen used v s answer w t
 waits_told b c seen used d tick v w s t (Behind who tick') waits told =
     let ticks : tick' ≡ tick = told.1 in
-    subst (λ (a : Actor). FinishTold b c seen used v s (Behind a tick') w t) (sym told.0)
+    subst (λ (a : Actor). LiveFinishTold b c seen used v s (Behind a tick') w t) (sym told.0)
     (subst (λ (x : ℕ). WaitsForCore b c v d x w) (sym ticks) waits, told.2)
 waits_told b c seen used d tick v w s t (Stopped change) waits told =
     (inr (record { core = d; tick = tick; waits = waits }, told.0), told.1)
@@ -94,7 +94,7 @@ begin_waits b rounds c seen tick v w s t state Finished begins told = absurd tol
 pub record HasBegunFrom (b : LiveView) (rounds c seen used : ℕ) (v u : View) (state : StateView) : Type 0 where
   pub begins : BeginsStep b.outline rounds c v seen (part u c)
   pub begun : HasBegun b.outline state u seen used
-  pub stands : Stands b.outline state u
+  pub stands : AgreesWithoutPlan b.outline state u
   pub core : state.core ≡ c
   pub others : ChangesOnly v u c
 
@@ -152,7 +152,7 @@ needs_change b rounds c seen used change v u w state from is less =
 
 -- the whole step, whose end is reported
 pub finish_told : (b : LiveView) (rounds c seen used : ℕ) (v u w : View) (s t : ShelfView) (state : StateView) (answer : LiveAnswer)
-    → HasBegunFrom b rounds c seen used v u state → FinishTold b c seen used u s answer w t → LiveTold b rounds c v s answer w t
+    → HasBegunFrom b rounds c seen used v u state → LiveFinishTold b c seen used u s answer w t → LiveTold b rounds c v s answer w t
 finish_told b rounds c seen used v u w s t state (Ran stint) from told = record {
   goes = (seen, part u c, from.begins, told.goes);
   told = λ course live. (
@@ -195,7 +195,7 @@ beyond_since b seen s u t grows looks = λ change beyond. elim (looks change bey
 ]
 
 pub finish_since : (b : LiveView) (c seen used : ℕ) (v w : View) (s u t : ShelfView) (answer : LiveAnswer) → Grows s u
-    → FinishTold b c seen used v u answer w t → FinishTold b c seen used v s answer w t
+    → LiveFinishTold b c seen used v u answer w t → LiveFinishTold b c seen used v s answer w t
 finish_since b c seen used v w s u t (Ran stint) grows told = told
 finish_since b c seen used v w s u t (Behind (Core d) tick) grows told = (told.0, beyond_since b seen s u t grows told.1)
 finish_since b c seen used v w s u t (Behind Controller tick) grows told = told
@@ -204,8 +204,8 @@ finish_since b c seen used v w s u t (Stopped change) grows told = told
 finish_since b c seen used v w s u t Finished grows told = told
 
 -- the actor that has gone on is one of the book
-pub actor_on : (b : LiveView) (a : LiveActorView) (state : StateView) → IsActorOf b a → state.core ≡ a.state.core
-    → IsActorOf b (live_actor_view state a.table a.taken)
+pub actor_on : (b : LiveView) (a : LiveActorView) (state : StateView) → IsLiveActorOf b a → state.core ≡ a.state.core
+    → IsLiveActorOf b (live_actor_view state a.table a.taken)
 actor_on b a state of core = record {
   within = subst (λ (i : ℕ). i < b.host.cores) (sym core) of.within;
   table_is = subst (λ (i : ℕ). IsTableOf b.plan i a.table) (sym core) of.table_is;
@@ -215,10 +215,10 @@ actor_on b a state of core = record {
 
 -- a core that began its step agrees with its part again
 pub agrees_on : (b : LiveView) (o : OutlineView) (old new : StateView) (v u : View) → o ≡ b.outline → LiveAgrees b old v
-    → Stands o new u → new.core ≡ old.core
+    → AgreesWithoutPlan o new u → new.core ≡ old.core
     → ((course : CourseView) → FollowsPlans course old (part v old.core) → FollowsPlans course new (part u old.core))
     → LiveAgrees b new u
 agrees_on b o old new v u is agrees stands core plans = record {
-  stands = subst (λ (x : OutlineView). Stands x new u) is stands;
+  stands = subst (λ (x : OutlineView). AgreesWithoutPlan x new u) is stands;
   plans = λ course live. subst (λ (i : ℕ). FollowsPlans course new (part u i)) (sym core) (plans course (agrees.plans course live));
 }

@@ -9,7 +9,7 @@ use Rattle.slice_table.specs.Slices.{IsTableOf}
 use Rattle.plan_make.specs.Planned.{IsPlanned}
 use Rattle.round_words.specs.declared.view.View.{View}
 use Rattle.round_words.specs.Views.{part}
-use Rattle.dispatch_core.specs.States.{FollowsPlans, Stands, StateView}
+use Rattle.dispatch_core.specs.States.{AgreesWithoutPlan, FollowsPlans, StateView}
 use Rattle.live_plan.specs.declared.taken.Taken.{Taken}
 use Rattle.live_plan.specs.Books.{LiveView}
 use Rattle.live_plan.specs.Changes.{HostAfter, IsEditedBy}
@@ -41,7 +41,7 @@ IsLastChange b k None = HostAfter b.host b.changes k b.host
 IsLastChange b k (Some i) = IsLastPlanned b k i
 
 -- the actor is one of the book: it has its core's slice table, and what it took is right for so many changes
-pub record IsActorOf (b : LiveView) (a : LiveActorView) : Type 0 where
+pub record IsLiveActorOf (b : LiveView) (a : LiveActorView) : Type 0 where
   pub within : a.state.core < b.host.cores
   pub table_is : IsTableOf b.plan a.state.core a.table
   pub few : a.taken.changes ≤ length b.changes
@@ -49,5 +49,5 @@ pub record IsActorOf (b : LiveView) (a : LiveActorView) : Type 0 where
 
 -- what is kept of the core's run agrees with its part of the view, by the plans of each course of the book
 pub record LiveAgrees (b : LiveView) (s : StateView) (v : View) : Type 0 where
-  pub stands : Stands b.outline s v
+  pub stands : AgreesWithoutPlan b.outline s v
   pub plans : (course : CourseView) → IsLiveCourse b course → FollowsPlans course s (part v s.core)

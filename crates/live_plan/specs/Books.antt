@@ -71,16 +71,16 @@ after_events runnable [] = runnable
 after_events runnable (event ∷ events) = after_events (after_act runnable event.act) events
 
 -- the edits of an event's change, if it is one, before those of other changes
-abbrev pub with_change : Act → List (List Edit) → List (List Edit)
-with_change (Wake vcpu) changes = changes
-with_change (Block vcpu) changes = changes
-with_change (Change edits) changes = edits ∷ changes
-with_change (Burst vcpu work) changes = changes
+abbrev pub with_edits : Act → List (List Edit) → List (List Edit)
+with_edits (Wake vcpu) changes = changes
+with_edits (Block vcpu) changes = changes
+with_edits (Change edits) changes = edits ∷ changes
+with_edits (Burst vcpu work) changes = changes
 
 -- the edits of each change of the events
 abbrev pub edits_in : List Event → List (List Edit)
 edits_in [] = []
-edits_in (event ∷ events) = with_change event.act (edits_in events)
+edits_in (event ∷ events) = with_edits event.act (edits_in events)
 
 -- the outline is that of these events for the host
 pub record IsOutlineOf (host : Host) (events : List Event) (o : OutlineView) : Type 0 where

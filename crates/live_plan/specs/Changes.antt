@@ -10,13 +10,13 @@ use Rattle.plan_book.specs.Changes.{IsUnplanned}
 use Rattle.plan_book.specs.declared.outcome.Outcome.{Outcome}
 
 -- a change is planned: its edits make a host that has a plan, and that is the host from then on
-pub record IsTaken (before : Host) (edits : List Edit) (after : Host) : Type 0 where
+pub record IsEditTaken (before : Host) (edits : List Edit) (after : Host) : Type 0 where
   pub edited : IsEdited before edits after
   pub plan : PlanView
   pub planned : IsPlanned after plan
 
 -- a change is refused: its edits make a host that has no plan, and the host stays
-pub record IsRefused (before : Host) (edits : List Edit) (after : Host) : Type 0 where
+pub record IsEditRefused (before : Host) (edits : List Edit) (after : Host) : Type 0 where
   pub host : Host
   pub edited : IsEdited before edits host
   pub outcome : Outcome
@@ -25,7 +25,7 @@ pub record IsRefused (before : Host) (edits : List Edit) (after : Host) : Type 0
 
 -- the change makes the second host of the first: the edited one where that has a plan, else the first itself
 abbrev pub Becomes : Host → List Edit → Host → Type 0
-Becomes before edits after = IsTaken before edits after ⊎ IsRefused before edits after
+Becomes before edits after = IsEditTaken before edits after ⊎ IsEditRefused before edits after
 
 -- the host after the first k changes
 abbrev pub HostAfter : Host → List (List Edit) → ℕ → Host → Type 0

@@ -15,15 +15,15 @@ use Rattle.live_plan.specs.Planners.{IsPlannerOf, PlannerView}
 use Rattle.live_plan.specs.Players.{LeadView, MemberView}
 
 -- the actors of a live run of so many rounds: by number the cores, the controller, and the planner with its shelf
-pub record CrewView : Type 0 where
+pub record LiveCrewView : Type 0 where
   pub rounds : ℕ
   pub members : List (Player MemberView)
   pub lead : Player LeadView
   pub maker : Maker
 
 -- the crew of a run of so many rounds, by its parts
-abbrev pub crew_view : ℕ → List (Player MemberView) → Player LeadView → Maker → CrewView
-crew_view rounds members lead maker =
+abbrev pub live_crew_view : ℕ → List (Player MemberView) → Player LeadView → Maker → LiveCrewView
+live_crew_view rounds members lead maker =
     record { rounds = rounds; members = members; lead = lead; maker = maker }
 
 -- a core's actor as contracts see it, if there is one
@@ -32,11 +32,11 @@ actor_in None = None
 actor_in (Some p) = Some p.actor.actor
 
 -- the actor of core c, if there is such a core
-abbrev pub actor_of : CrewView → ℕ → Option LiveActorView
-actor_of crew c = actor_in (slice_get crew.members c)
+abbrev pub live_actor_of : LiveCrewView → ℕ → Option LiveActorView
+live_actor_of crew c = actor_in (slice_get crew.members c)
 
 -- the planner of a crew
-abbrev pub planner_of : CrewView → PlannerView
+abbrev pub planner_of : LiveCrewView → PlannerView
 planner_of crew = crew.maker.planner
 
 -- the book's course without its plans
@@ -57,7 +57,7 @@ pub record IsMakerOf (b : LiveView) (maker : Maker) : Type 0 where
   pub some : maker.planner.stopped ≡ true → 0 < maker.planner.next
 
 -- the crew was made of the book, with an actor for each of its cores, for a run that has all its events
-pub record IsCrewOf (b : LiveView) (crew : CrewView) : Type 0 where
+pub record IsCrewOf (b : LiveView) (crew : LiveCrewView) : Type 0 where
   pub fits : FitsRounds (bare b) crew.rounds
   pub cores : length crew.members ≡ b.outline.cores
   pub members : (c : ℕ) (p : Player MemberView) → slice_get crew.members c ≡ Some p → IsMemberOf b crew.rounds c p.actor
@@ -65,18 +65,18 @@ pub record IsCrewOf (b : LiveView) (crew : CrewView) : Type 0 where
   pub maker : IsMakerOf b crew.maker
 
 -- all actors whose parts the view holds agree with them
-pub record AllAgree (b : LiveView) (crew : CrewView) (v : View) : Type 0 where
-  pub cores : (c : ℕ) (a : LiveActorView) → actor_of crew c ≡ Some a → holds v c ≡ true → LiveAgrees b a.state v
+pub record LiveCrewAgrees (b : LiveView) (crew : LiveCrewView) (v : View) : Type 0 where
+  pub cores : (c : ℕ) (a : LiveActorView) → live_actor_of crew c ≡ Some a → holds v c ≡ true → LiveAgrees b a.state v
   pub control : holds v controller ≡ true → HasPosted b.outline crew.lead.actor.control v
 
 -- the view holds the parts of all cores, and the controller's
-pub record HoldsAll (crew : CrewView) (v : View) : Type 0 where
+pub record HoldsLiveCrew (crew : LiveCrewView) (v : View) : Type 0 where
   pub cores : (c : ℕ) → c < length crew.members → holds v c ≡ true
   pub control : holds v controller ≡ true
 
 -- every core's clock is at the run's end, and every event is posted
-pub record HaveFinished (b : LiveView) (crew : CrewView) : Type 0 where
-  pub cores : (c : ℕ) (a : LiveActorView) → actor_of crew c ≡ Some a → HasFinished a.state
+pub record HaveFinished (b : LiveView) (crew : LiveCrewView) : Type 0 where
+  pub cores : (c : ℕ) (a : LiveActorView) → live_actor_of crew c ≡ Some a → HasFinished a.state
   pub control : crew.lead.actor.control.posted ≡ length b.outline.ticks
 
 -- memory ran out for this change, which the planner planned last, or for none

@@ -10,7 +10,7 @@ use Rattle.dispatch_core.specs.States.{FollowsPlans, StateView}
 use Rattle.core_workers.specs.ActorLaws.{lead_part, same_actor, same_more, stands_part}
 use Rattle.live_plan.specs.Actors.{LiveAgrees}
 use Rattle.live_plan.specs.Books.{LiveView}
-use Rattle.live_plan.specs.Players.{CoreAgrees, MemberView, core_kind, lead_kind}
+use Rattle.live_plan.specs.Players.{LiveCoreAgrees, MemberView, live_core_kind, live_lead_kind}
 
 -- a core's actor agrees with each view of the board that has its part
 pub live_part : (b : LiveView) (a : StateView) (v w : View) → LiveAgrees b a v → IsSameBoard v w → holds w a.core ≡ true
@@ -21,8 +21,8 @@ live_part b a v w agrees board has is = record {
 }
 
 -- the laws
-pub core_lawful : IsLawful core_kind
-core_lawful = record {
+pub live_core_lawful : IsLawful live_core_kind
+live_core_lawful = record {
   begun = λ m v agrees. agrees.agrees.stands.of_outline.started;
   held = λ m v agrees. agrees.agrees.stands.core.1;
   parted = λ m v w agrees board has is. record {
@@ -39,12 +39,12 @@ core_lawful = record {
 }
 
 -- no run is as long as OUT
-pub core_short : (m : MemberView) (v : View) → CoreAgrees m v → m.actor.state.rounds * ROUND < OUT
-core_short m v agrees = omega (arith, agrees.short)
+pub live_core_short : (m : MemberView) (v : View) → LiveCoreAgrees m v → m.actor.state.rounds * ROUND < OUT
+live_core_short m v agrees = omega (arith, agrees.short)
 
 -- the controllers of live runs are a lawful kind of actor
-pub lead_lawful : IsLawful lead_kind
-lead_lawful = record {
+pub live_lead_lawful : IsLawful live_lead_kind
+live_lead_lawful = record {
   begun = λ k v agrees. agrees.of_outline.started;
   held = λ k v agrees. agrees.holds_it;
   parted = λ k v w agrees board has is. lead_part k.book.outline k.control v w agrees board has is;

@@ -31,7 +31,7 @@ abbrev pub lead_view : LiveView → ControlState → LeadView
 lead_view book control = record { book = book; control = control }
 
 -- the core agrees with its part of the view, in a run that isn't too long
-pub record CoreAgrees (m : MemberView) (v : View) : Type 0 where
+pub record LiveCoreAgrees (m : MemberView) (v : View) : Type 0 where
   pub short : m.actor.state.rounds ≤ MAX_ROUNDS
   pub agrees : LiveAgrees m.book m.actor.state v
 
@@ -42,10 +42,10 @@ pub record IsSameMember (m n : MemberView) : Type 0 where
 
 -- A core: its place is its clock, and it has ended at the run's end. Of what it waits for nothing is said, since the
 -- last turns of a live run go on until all have ended
-abbrev pub core_kind : Kind MemberView
-core_kind = record {
+abbrev pub live_core_kind : Kind MemberView
+live_core_kind = record {
   number = λ m. m.actor.state.core;
-  agrees = CoreAgrees;
+  agrees = LiveCoreAgrees;
   same = IsSameMember;
   place = λ m. m.actor.state.clock;
   end = λ m. m.actor.state.rounds * ROUND;
@@ -54,8 +54,8 @@ core_kind = record {
 }
 
 -- the controller: its place is how many events it has posted, and it has ended once these are all
-abbrev pub lead_kind : Kind LeadView
-lead_kind = record {
+abbrev pub live_lead_kind : Kind LeadView
+live_lead_kind = record {
   number = λ k. controller;
   agrees = λ k v. HasPosted k.book.outline k.control v;
   same = λ k l. l.book ≡ k.book;

@@ -5,7 +5,7 @@ ghost use Rattle.round_words.specs.Shown.{HoldsCore};
 ghost use Rattle.round_words.specs.Views.{part};
 ghost use Rattle.dispatch_core.specs.Parts.{IsNewPart, IsOfOutline};
 ghost use Rattle.slice_table.specs.Owners.{AreRowOwners};
-ghost use Rattle.live_plan.specs.Actors.{IsActorOf, LiveAgrees};
+ghost use Rattle.live_plan.specs.Actors.{IsLiveActorOf, LiveAgrees};
 
 use crate::book::LiveBook;
 use crate::taken::Taken;
@@ -52,7 +52,7 @@ impl LiveActor {
     ) -> Result<LiveActor, NoMemory>
         requires core { core < book.now.host.cores }
         requires few { rounds ≤ MAX_ROUNDS }
-        ensures actor { IfOk result (IsActorOf book.now) }
+        ensures actor { IfOk result (IsLiveActorOf book.now) }
         ensures same { IfOk result (λ a. (a.state.core ≡ core) × (a.state.rounds ≡ rounds)
             × (a.state.keep ≡ 0)) }
         ensures agrees { IfOk result (λ a. (v : ViewValue) → IsOfOutline book.now.outline v → HoldsCore v core
@@ -74,7 +74,7 @@ impl LiveActor {
         requires core { core < book.now.host.cores }
         requires owners { AreRowOwners book.now.plan owners.now }
         requires few { rounds ≤ MAX_ROUNDS }
-        ensures actor { IfOk result (IsActorOf book.now) }
+        ensures actor { IfOk result (IsLiveActorOf book.now) }
         ensures same { IfOk result (λ a. (a.state.core ≡ core) × (a.state.rounds ≡ rounds)
             × (a.state.keep ≡ 0)) }
         ensures agrees { IfOk result (λ a. (v : ViewValue) → IsOfOutline book.now.outline v → HoldsCore v core

@@ -3,9 +3,9 @@ ghost use Rattle.round_words.specs.declared.view.View.{View as ViewValue};
 ghost use Rattle.round_words.specs.Changes.{ChangesOnly};
 ghost use Rattle.round_words.specs.Seats.{view_of, IsSeatOf};
 ghost use Rattle.round_words.specs.Views.{IsStarted, controller as the_controller, holds, part};
-ghost use Rattle.plan_switch.specs.Controllers.{HasPosted, IsNewPart};
+ghost use Rattle.plan_switch.specs.Controllers.{HasPosted, IsNewControlPart};
 ghost use Rattle.live_plan.specs.Controls.{LiveControlTold};
-ghost use Rattle.live_plan.specs.Inside.Seeking.{IsFree, IsHeld};
+ghost use Rattle.live_plan.specs.Inside.Seeking.{IsFree, IsHeldBack};
 ghost use Rattle.live_plan.specs.Shelves.{Grows};
 
 use crate::book::LiveBook;
@@ -54,7 +54,7 @@ impl LiveController {
         ensures posted { result.posted ≡ 0 }
         ensures agrees { (v : ViewValue)
             → IsStarted book.now.outline.lag book.now.outline.cores (length book.now.outline.ticks) v
-            → holds v the_controller ≡ true → IsNewPart (part v the_controller)
+            → holds v the_controller ≡ true → IsNewControlPart (part v the_controller)
             → HasPosted book.now.outline result v }
     {
         let _ = book;
@@ -113,7 +113,7 @@ fn held_back<'a, H: Shelf<'a>>(book: &'a LiveBook, shelf: &mut H, event: u32) ->
     ensures shelf { H.is_of shelf.new book.now }
     ensures grows { Grows (H.state shelf.old) (H.state shelf.new) }
     ensures held { MatchOption result (IsFree book.now event (H.state shelf.new))
-        (IsHeld book.now event (H.state shelf.old) (H.state shelf.new)) }
+        (IsHeldBack book.now event (H.state shelf.old) (H.state shelf.new)) }
 {
     if event >= book.outline().count() {
         return None;

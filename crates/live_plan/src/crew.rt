@@ -2,8 +2,8 @@ ghost use Rattle.std.specs.Prelude.{◌≡◌, ◌<◌, ◌≤◌, IfOk, None, S
 ghost use Rattle.tab_core.specs.declared.TheConstants.{MAX_ROUNDS};
 ghost use Rattle.round_words.specs.declared.view.View.{View as ViewValue};
 ghost use Rattle.table_form.specs.Running.Courses.{FitsRounds};
-ghost use Rattle.core_workers.specs.Crews.{IsFresh};
-ghost use Rattle.live_plan.specs.Crews.{AllAgree, IsCrewOf, StoppedAt, actor_of, bare, planner_of};
+ghost use Rattle.core_workers.specs.Crews.{IsNewView};
+ghost use Rattle.live_plan.specs.Crews.{IsCrewOf, LiveCrewAgrees, StoppedAt, bare, live_actor_of, planner_of};
 ghost use Rattle.live_plan.specs.Inside.Crewing.{AreNewMembers};
 
 use crate::actor::LiveActor;
@@ -30,11 +30,11 @@ pub struct LiveCrew<'a> {
 }
 
 impl<'a> Model for LiveCrew<'a> {
-    ghost use Rattle.live_plan.specs.Crews.{CrewView, crew_view};
+    ghost use Rattle.live_plan.specs.Crews.{LiveCrewView, live_crew_view};
 
-    ghost Value = { CrewView };
+    ghost Value = { LiveCrewView };
 
-    ghost view = { λ c. crew_view c.rounds c.members.items c.lead c.maker };
+    ghost view = { λ c. live_crew_view c.rounds c.members.items c.lead c.maker };
 }
 
 impl<'a> LiveCrew<'a> {
@@ -50,7 +50,7 @@ impl<'a> LiveCrew<'a> {
         requires fits { FitsRounds (bare book.now) rounds }
         ensures crew { IfOk result (IsCrewOf book.now) }
         ensures rounds { IfOk result (λ c. c.rounds ≡ rounds) }
-        ensures agree { IfOk result (λ c. (v : ViewValue) → IsFresh (bare book.now) v → AllAgree book.now c v) }
+        ensures agree { IfOk result (λ c. (v : ViewValue) → IsNewView (bare book.now) v → LiveCrewAgrees book.now c v) }
         ensures going { IfOk result (λ c. StoppedAt (planner_of c) None) }
     {
         let members = make_members(alloc, book, rounds)?;
@@ -70,7 +70,7 @@ impl<'a> LiveCrew<'a> {
     /// What the core's actor keeps of its run.
     pub fn actor(&self, core: CoreNo) -> &LiveActor
         requires { core < length self.now.members }
-        ensures { actor_of self.now core ≡ Some result.now }
+        ensures { live_actor_of self.now core ≡ Some result.now }
     {
         let number = core.index();
         self.members[number].actor.actor()

@@ -3,7 +3,7 @@ ghost use Rattle.tab_core.specs.Edits.{AreEditsOf};
 ghost use Rattle.table_form.specs.Tables.Views.{plan_view};
 ghost use Rattle.live_plan.specs.Changes.{HostAfter};
 ghost use Rattle.live_plan.specs.Finding.{AreTablesOf, IsFoundOf};
-ghost use Rattle.live_plan.specs.Inside.Making.{IsFoundNext, IsPlannedNext, IsRefusedNext};
+ghost use Rattle.live_plan.specs.Inside.Making.{IsChangeRefusedNext, IsFoundNext, IsPlannedNext};
 
 use crate::made::Found;
 use plan_book::{Outcome, planned};
@@ -97,7 +97,7 @@ fn planned_next<R: Threads + Sync>(
     ensures planned { IfOk result (λ made. IfOk made (λ plan.
         IsPlannedNext standing.old edits.now (plan_view plan) standing.new)) }
     ensures refused { IfOk result (λ made. IfErr made (λ outcome.
-        IsRefusedNext standing.old edits.now outcome standing.new)) }
+        IsChangeRefusedNext standing.old edits.now outcome standing.new)) }
 {
     let edited = standing.edited(alloc, edits)?;
     match planned(rt, alloc, &edited)? {

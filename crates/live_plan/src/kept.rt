@@ -1,7 +1,7 @@
 ghost use Rattle.std.specs.Prelude.{◌≡◌, ◌<◌, ◌≤◌, ℕ, IfErr, IfOk, MatchOption, length};
 ghost use Rattle.live_plan.specs.Books.{changes_before};
-ghost use Rattle.live_plan.specs.Inside.Keeping.{IsKept};
-ghost use Rattle.live_plan.specs.Inside.Seeking.{IsTaken, IsUnmade};
+ghost use Rattle.live_plan.specs.Inside.Keeping.{IsTableKept};
+ghost use Rattle.live_plan.specs.Inside.Seeking.{IsLatestTaken, IsUnmade};
 ghost use Rattle.live_plan.specs.Shelves.{Grows};
 
 use crate::book::LiveBook;
@@ -21,7 +21,7 @@ pub(crate) struct Kept<'a> {
 impl<'a> Kept<'a> {
     // Nothing: a count that no round uses.
     pub(crate) fn nothing(book: &LiveBook) -> Kept<'a>
-        ensures { (c : ℕ) → IsKept book.now c result }
+        ensures { (c : ℕ) → IsTableKept book.now c result }
     {
         Kept {
             used: book.outline().count() + 1,
@@ -54,14 +54,14 @@ pub(crate) fn keep<'a, H: Shelf<'a>>(
     used: u32,
 ) -> Result<(), Unmade>
     requires shelf { H.is_of shelf.old book.now }
-    requires taken { IsTaken book.now taken.old }
-    requires kept { IsKept book.now core kept.old }
+    requires taken { IsLatestTaken book.now taken.old }
+    requires kept { IsTableKept book.now core kept.old }
     requires core { core < book.now.host.cores }
     requires used { used ≤ length book.now.outline.ticks }
     ensures shelf { H.is_of shelf.new book.now }
     ensures grows { Grows (H.state shelf.old) (H.state shelf.new) }
-    ensures taken { IsTaken book.now taken.new }
-    ensures kept { IsKept book.now core kept.new }
+    ensures taken { IsLatestTaken book.now taken.new }
+    ensures kept { IsTableKept book.now core kept.new }
     ensures ok { IfOk result (λ _. kept.new.used ≡ used) }
     ensures err { IfErr result (IsUnmade (changes_before book.now used) (H.state shelf.old) (H.state shelf.new)) }
 {
@@ -82,14 +82,14 @@ fn keep_anew<'a, H: Shelf<'a>>(
     used: u32,
 ) -> Result<(), Unmade>
     requires shelf { H.is_of shelf.old book.now }
-    requires taken { IsTaken book.now taken.old }
-    requires kept { IsKept book.now core kept.old }
+    requires taken { IsLatestTaken book.now taken.old }
+    requires kept { IsTableKept book.now core kept.old }
     requires core { core < book.now.host.cores }
     requires used { used ≤ length book.now.outline.ticks }
     ensures shelf { H.is_of shelf.new book.now }
     ensures grows { Grows (H.state shelf.old) (H.state shelf.new) }
-    ensures taken { IsTaken book.now taken.new }
-    ensures kept { IsKept book.now core kept.new }
+    ensures taken { IsLatestTaken book.now taken.new }
+    ensures kept { IsTableKept book.now core kept.new }
     ensures ok { IfOk result (λ _. kept.new.used ≡ used) }
     ensures err { IfErr result (IsUnmade (changes_before book.now used) (H.state shelf.old) (H.state shelf.new)) }
 {

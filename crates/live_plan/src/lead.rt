@@ -1,7 +1,7 @@
 ghost use Rattle.std.specs.Prelude.{◌≡◌, length, true};
 ghost use Rattle.round_words.specs.declared.view.View.{View as ViewValue};
 ghost use Rattle.round_words.specs.Views.{IsStarted, controller as the_controller, holds, part};
-ghost use Rattle.plan_switch.specs.Controllers.{HasPosted, IsNewPart};
+ghost use Rattle.plan_switch.specs.Controllers.{HasPosted, IsNewControlPart};
 
 use crate::book::LiveBook;
 use crate::cell_shelf::CellShelf;
@@ -39,7 +39,7 @@ impl<'a> Lead<'a> {
         ensures book { result.book ≡ book.now }
         ensures agrees { (v : ViewValue)
             → IsStarted book.now.outline.lag book.now.outline.cores (length book.now.outline.ticks) v
-            → holds v the_controller ≡ true → IsNewPart (part v the_controller)
+            → holds v the_controller ≡ true → IsNewControlPart (part v the_controller)
             → HasPosted book.now.outline result.control v }
     {
         Lead {
@@ -51,12 +51,12 @@ impl<'a> Lead<'a> {
 }
 
 impl<'a> Stepper for Lead<'a> {
-    ghost use Rattle.live_plan.specs.Players.{lead_kind};
-    ghost use Rattle.live_plan.specs.PlayerLaws.{lead_lawful};
+    ghost use Rattle.live_plan.specs.Players.{live_lead_kind};
+    ghost use Rattle.live_plan.specs.PlayerLaws.{live_lead_lawful};
 
-    ghost kind = { lead_kind };
+    ghost kind = { live_lead_kind };
 
-    ghost lawful = { lead_lawful };
+    ghost lawful = { live_lead_lawful };
 
     #[inline(always)]
     fn number(&self) -> u32 {

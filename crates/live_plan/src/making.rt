@@ -9,7 +9,7 @@ ghost use Rattle.worst_fit.specs.Bound.{IsWithinBound};
 ghost use Rattle.plan_make.specs.Planned.{IsFirstWithoutRoom, IsPlanned};
 ghost use Rattle.script_doc.specs.Events.{is_change};
 ghost use Rattle.script_doc.specs.Script.{AreWithin, NeverFall, changes_in};
-ghost use Rattle.live_plan.specs.Books.{IsLiveBookOf, IsOutlineOf, after_act, after_events, edits_in, with_change};
+ghost use Rattle.live_plan.specs.Books.{IsLiveBookOf, IsOutlineOf, after_act, after_events, edits_in, with_edits};
 
 use crate::book::LiveBook;
 use crate::made::{Made, copy_of};
@@ -143,7 +143,7 @@ fn changes_of(alloc: Global, events: &[Event]) -> Result<Vec<Edits>, NoMemory>
 
 // Adds the edits of an event's change, if it is one.
 fn push_change(alloc: Global, changes: &mut Vec<Edits>, act: &Act) -> Result<(), NoMemory>
-    ensures { OnOk result (changes.new.items ≡ changes.old.items ++ with_change act.now []) }
+    ensures { OnOk result (changes.new.items ≡ changes.old.items ++ with_edits act.now []) }
 {
     match act {
         Act::Wake(_) | Act::Block(_) | Act::Burst { .. } => Ok(()),

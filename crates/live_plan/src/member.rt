@@ -27,17 +27,17 @@ pub(crate) struct Member<'a> {
 }
 
 impl<'a> Model for Member<'a> {
-    ghost use Rattle.live_plan.specs.Actors.{IsActorOf};
+    ghost use Rattle.live_plan.specs.Actors.{IsLiveActorOf};
     ghost use Rattle.live_plan.specs.Inside.Cells.{IsCellShelfOf};
-    ghost use Rattle.live_plan.specs.Inside.Keeping.{IsKept};
+    ghost use Rattle.live_plan.specs.Inside.Keeping.{IsTableKept};
     ghost use Rattle.live_plan.specs.Players.{MemberView, member_view};
 
     ghost Value = { MemberView };
 
     ghost view = { λ m. member_view m.book.now m.actor };
 
-    ghost invariant = { λ m. IsActorOf m.book.now m.actor × IsCellShelfOf m.book.now m.shelf
-        × IsKept m.book.now m.actor.state.core m.kept };
+    ghost invariant = { λ m. IsLiveActorOf m.book.now m.actor × IsCellShelfOf m.book.now m.shelf
+        × IsTableKept m.book.now m.actor.state.core m.kept };
 }
 
 impl<'a> Member<'a> {
@@ -72,12 +72,12 @@ impl<'a> Member<'a> {
 }
 
 impl<'a> Stepper for Member<'a> {
-    ghost use Rattle.live_plan.specs.Players.{core_kind};
-    ghost use Rattle.live_plan.specs.PlayerLaws.{core_lawful};
+    ghost use Rattle.live_plan.specs.Players.{live_core_kind};
+    ghost use Rattle.live_plan.specs.PlayerLaws.{live_core_lawful};
 
-    ghost kind = { core_kind };
+    ghost kind = { live_core_kind };
 
-    ghost lawful = { core_lawful };
+    ghost lawful = { live_core_lawful };
 
     #[inline(always)]
     fn number(&self) -> u32 {
@@ -110,7 +110,7 @@ impl<'a> Stepper for Member<'a> {
 }
 
 impl<'a> CoreStepper for Member<'a> {
-    ghost use Rattle.live_plan.specs.PlayerLaws.{core_short};
+    ghost use Rattle.live_plan.specs.PlayerLaws.{live_core_short};
 
-    ghost is_short = { core_short };
+    ghost is_short = { live_core_short };
 }

@@ -1,7 +1,7 @@
 ghost use Rattle.std.specs.Prelude.{◌≡◌, ◌+◌, ◌<◌, ◌≤◌, IfErr, IfOk, MatchOption, length};
 ghost use Rattle.live_plan.specs.Books.{IsLive};
 ghost use Rattle.live_plan.specs.Courses.{IsPlanAt};
-ghost use Rattle.live_plan.specs.Inside.Seeking.{IsSliceAt, IsTaken, IsUnmade};
+ghost use Rattle.live_plan.specs.Inside.Seeking.{IsLatestTaken, IsSliceAt, IsUnmade};
 ghost use Rattle.live_plan.specs.Shelves.{Grows};
 
 use crate::book::LiveBook;
@@ -28,12 +28,12 @@ pub(crate) fn seek<'a, H: Shelf<'a>>(
 ) -> Result<Option<&'a SliceTable>, Unmade>
     requires kept { IsLive book.now }
     requires shelf { H.is_of shelf.old book.now }
-    requires taken { IsTaken book.now taken.old }
+    requires taken { IsLatestTaken book.now taken.old }
     requires core { core < book.now.host.cores }
     requires changes { changes ≤ length book.now.changes }
     ensures shelf { H.is_of shelf.new book.now }
     ensures grows { Grows (H.state shelf.old) (H.state shelf.new) }
-    ensures taken { IsTaken book.now taken.new }
+    ensures taken { IsLatestTaken book.now taken.new }
     ensures ok { IfOk result (λ found. MatchOption found (IsPlanAt book.now changes book.now.plan)
         (λ table. IsSliceAt book.now changes core table.now)) }
     ensures err { IfErr result (IsUnmade changes (H.state shelf.old) (H.state shelf.new)) }
@@ -55,8 +55,8 @@ pub(crate) fn seek<'a, H: Shelf<'a>>(
 
 // Begins anew where more was taken than so many changes. `book` is for the proof alone.
 fn restart(book: &LiveBook, taken: &mut Taken, changes: u32)
-    requires taken { IsTaken book.now taken.old }
-    ensures taken { IsTaken book.now taken.new }
+    requires taken { IsLatestTaken book.now taken.old }
+    ensures taken { IsLatestTaken book.now taken.new }
     ensures before { taken.new.changes ≤ changes }
 {
     let _ = book;
@@ -74,12 +74,12 @@ fn take_up<'a, H: Shelf<'a>>(
 ) -> Result<(), Unmade>
     requires kept { IsLive book.now }
     requires shelf { H.is_of shelf.old book.now }
-    requires taken { IsTaken book.now taken.old }
+    requires taken { IsLatestTaken book.now taken.old }
     requires before { taken.old.changes ≤ changes }
     requires changes { changes ≤ length book.now.changes }
     ensures shelf { H.is_of shelf.new book.now }
     ensures grows { Grows (H.state shelf.old) (H.state shelf.new) }
-    ensures taken { IsTaken book.now taken.new }
+    ensures taken { IsLatestTaken book.now taken.new }
     ensures ok { IfOk result (λ _. taken.new.changes ≡ changes) }
     ensures err { IfErr result (IsUnmade changes (H.state shelf.old) (H.state shelf.new)) }
 {
@@ -97,11 +97,11 @@ fn take_next<'a, H: Shelf<'a>>(
 ) -> Result<(), Unmade>
     requires kept { IsLive book.now }
     requires shelf { H.is_of shelf.old book.now }
-    requires taken { IsTaken book.now taken.old }
+    requires taken { IsLatestTaken book.now taken.old }
     requires next { taken.old.changes < length book.now.changes }
     ensures shelf { H.is_of shelf.new book.now }
     ensures grows { Grows (H.state shelf.old) (H.state shelf.new) }
-    ensures taken { IsTaken book.now taken.new }
+    ensures taken { IsLatestTaken book.now taken.new }
     ensures ok { IfOk result (λ _. taken.new.changes ≡ taken.old.changes + 1) }
     ensures err { IfErr result (IsUnmade (taken.old.changes + 1) (H.state shelf.old) (H.state shelf.new)) }
 {

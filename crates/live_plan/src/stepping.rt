@@ -2,10 +2,10 @@ ghost use Rattle.std.specs.Prelude.{◌≤◌, length};
 ghost use Rattle.round_words.specs.Changes.{ChangesOnly};
 ghost use Rattle.round_words.specs.Seats.{view_of, IsSeatOf};
 ghost use Rattle.dispatch_core.specs.States.{HasBegun, IsSameCore};
-ghost use Rattle.live_plan.specs.Actors.{IsActorOf, LiveAgrees};
+ghost use Rattle.live_plan.specs.Actors.{IsLiveActorOf, LiveAgrees};
 ghost use Rattle.live_plan.specs.Books.{changes_before};
-ghost use Rattle.live_plan.specs.Inside.Finishing.{FinishTold, WaitTold};
-ghost use Rattle.live_plan.specs.Inside.Keeping.{IsKept};
+ghost use Rattle.live_plan.specs.Inside.Finishing.{LiveFinishTold, WaitTold};
+ghost use Rattle.live_plan.specs.Inside.Keeping.{IsTableKept};
 ghost use Rattle.live_plan.specs.Inside.Seeking.{IsSliceAt};
 ghost use Rattle.live_plan.specs.Shelves.{Grows};
 ghost use Rattle.live_plan.specs.Told.{LiveTold};
@@ -37,11 +37,11 @@ pub fn live_core_step<'a, H: Shelf<'a>>(
     shelf: &mut H,
 ) -> LiveAnswer
     requires board { IsSeatOf board.now seat.old }
-    requires actor { IsActorOf book.now actor.old }
+    requires actor { IsLiveActorOf book.now actor.old }
     requires agrees { LiveAgrees book.now actor.old.state (view_of seat.old) }
     requires shelf { H.is_of shelf.old book.now }
     ensures board { IsSeatOf board.now seat.new }
-    ensures actor { IsActorOf book.now actor.new }
+    ensures actor { IsLiveActorOf book.now actor.new }
     ensures agrees { LiveAgrees book.now actor.new.state (view_of seat.new) }
     ensures same { IsSameCore actor.old.state actor.new.state }
     ensures changes { ChangesOnly (view_of seat.old) (view_of seat.new) actor.old.state.core }
@@ -66,12 +66,12 @@ pub(crate) fn step_keeping<'a, H: Shelf<'a>>(
     kept: &mut Kept<'a>,
 ) -> LiveAnswer
     requires board { IsSeatOf board.now seat.old }
-    requires actor { IsActorOf book.now actor.old }
+    requires actor { IsLiveActorOf book.now actor.old }
     requires agrees { LiveAgrees book.now actor.old.state (view_of seat.old) }
     requires shelf { H.is_of shelf.old book.now }
-    requires kept { IsKept book.now actor.old.state.core kept.old }
+    requires kept { IsTableKept book.now actor.old.state.core kept.old }
     ensures board { IsSeatOf board.now seat.new }
-    ensures actor { IsActorOf book.now actor.new }
+    ensures actor { IsLiveActorOf book.now actor.new }
     ensures agrees { LiveAgrees book.now actor.new.state (view_of seat.new) }
     ensures same { IsSameCore actor.old.state actor.new.state }
     ensures changes { ChangesOnly (view_of seat.old) (view_of seat.new) actor.old.state.core }
@@ -79,7 +79,7 @@ pub(crate) fn step_keeping<'a, H: Shelf<'a>>(
     ensures grows { Grows (H.state shelf.old) (H.state shelf.new) }
     ensures told { LiveTold book.now actor.old.state.rounds actor.old.state.core (view_of seat.old)
         (H.state shelf.old) result (view_of seat.new) (H.state shelf.new) }
-    ensures kept { IsKept book.now actor.old.state.core kept.new }
+    ensures kept { IsTableKept book.now actor.old.state.core kept.new }
 {
     match begin_step(board, seat, book.outline(), &mut actor.state) {
         Begun::Finished => LiveAnswer::Finished,
@@ -101,21 +101,21 @@ fn finish<'a, H: Shelf<'a>>(
     used: u32,
 ) -> LiveAnswer
     requires board { IsSeatOf board.now seat.old }
-    requires actor { IsActorOf book.now actor.old }
+    requires actor { IsLiveActorOf book.now actor.old }
     requires agrees { LiveAgrees book.now actor.old.state (view_of seat.old) }
     requires begun { HasBegun book.now.outline actor.old.state (view_of seat.old) seen used }
     requires shelf { H.is_of shelf.old book.now }
-    requires kept { IsKept book.now actor.old.state.core kept.old }
+    requires kept { IsTableKept book.now actor.old.state.core kept.old }
     ensures board { IsSeatOf board.now seat.new }
-    ensures actor { IsActorOf book.now actor.new }
+    ensures actor { IsLiveActorOf book.now actor.new }
     ensures agrees { LiveAgrees book.now actor.new.state (view_of seat.new) }
     ensures same { IsSameCore actor.old.state actor.new.state }
     ensures changes { ChangesOnly (view_of seat.old) (view_of seat.new) actor.old.state.core }
     ensures shelf { H.is_of shelf.new book.now }
     ensures grows { Grows (H.state shelf.old) (H.state shelf.new) }
-    ensures told { FinishTold book.now actor.old.state.core seen used (view_of seat.old)
+    ensures told { LiveFinishTold book.now actor.old.state.core seen used (view_of seat.old)
         (H.state shelf.old) result (view_of seat.new) (H.state shelf.new) }
-    ensures kept { IsKept book.now actor.old.state.core kept.new }
+    ensures kept { IsTableKept book.now actor.old.state.core kept.new }
 {
     match keep(book, shelf, &mut actor.taken, kept, actor.core, used) {
         Err(Unmade::NotMade { change }) => LiveAnswer::NotMade { change },
@@ -156,7 +156,7 @@ fn run<'a, H: Shelf<'a>>(
     ensures changes { ChangesOnly (view_of seat.old) (view_of seat.new) state.old.core }
     ensures shelf { H.is_of shelf.new book.now }
     ensures grows { Grows (H.state shelf.old) (H.state shelf.new) }
-    ensures told { FinishTold book.now state.old.core seen used (view_of seat.old) (H.state shelf.old) result
+    ensures told { LiveFinishTold book.now state.old.core seen used (view_of seat.old) (H.state shelf.old) result
         (view_of seat.new) (H.state shelf.new) }
 {
     match end_step(board, seat, book.outline(), state, seen, used, table) {

@@ -5,13 +5,13 @@ ghost use Rattle.table_form.specs.Running.Complete.{IsComplete};
 ghost use Rattle.table_form.specs.Running.Invariant.{StateInvariant};
 ghost use Rattle.table_form.specs.Promises.Run.{KeepsPromises};
 ghost use Rattle.round_words.specs.Seats.{view_of, IsSeatOf};
-ghost use Rattle.board_state.specs.Readings.{state_of};
+ghost use Rattle.run_state.specs.Readings.{state_of};
 ghost use Rattle.crew_turns.specs.Going.{SameActors};
 ghost use Rattle.crew_turns.specs.Troops.{AllHaveEnded, AreAgreed, AreHeld, AreSame};
 ghost use Rattle.live_plan.specs.Actors.{LiveActorView};
 ghost use Rattle.live_plan.specs.Courses.{IsLiveCourse};
-ghost use Rattle.live_plan.specs.Crews.{AllAgree, HasPlanned, HaveFinished, HoldsAll, IsCrewOf, IsMakerOf, StoppedAt, actor_of, planner_of};
-ghost use Rattle.live_plan.specs.Players.{core_kind, lead_kind};
+ghost use Rattle.live_plan.specs.Crews.{HasPlanned, HaveFinished, HoldsLiveCrew, IsCrewOf, IsMakerOf, LiveCrewAgrees, StoppedAt, live_actor_of, planner_of};
+ghost use Rattle.live_plan.specs.Players.{live_core_kind, live_lead_kind};
 
 use crate::book::LiveBook;
 use crate::crew::LiveCrew;
@@ -34,12 +34,12 @@ fn finish<R: Wait, G: Gate>(
     stopped: Option<u32>,
 )
     requires board { IsSeatOf site.now.board.now seat.old }
-    requires agreed { AreAgreed core_kind lead_kind members.old lead.old (view_of seat.old) }
+    requires agreed { AreAgreed live_core_kind live_lead_kind members.old lead.old (view_of seat.old) }
     ensures board { IsSeatOf site.now.board.now seat.new }
-    ensures agreed { AreAgreed core_kind lead_kind members.new lead.new (view_of seat.new) }
-    ensures same { AreSame core_kind lead_kind members.old lead.old members.new lead.new }
+    ensures agreed { AreAgreed live_core_kind live_lead_kind members.new lead.new (view_of seat.new) }
+    ensures same { AreSame live_core_kind live_lead_kind members.old lead.old members.new lead.new }
     ensures actors { SameActors (view_of seat.old) (view_of seat.new) }
-    ensures ended { IfNone stopped (AllHaveEnded core_kind lead_kind members.new lead.new (view_of seat.new)) }
+    ensures ended { IfNone stopped (AllHaveEnded live_core_kind live_lead_kind members.new lead.new (view_of seat.new)) }
 {
     if stopped.is_some() {
         return;
@@ -74,13 +74,13 @@ pub fn run_live<'a, R: Threads + Wait + Sync, G: Gate>(
 ) -> (RoundSeat, LiveCrew<'a>, Option<u32>)
     requires board { IsSeatOf board.now seat }
     requires crew { IsCrewOf book.now crew }
-    requires agree { AllAgree book.now crew (view_of seat) }
-    requires holds { HoldsAll crew (view_of seat) }
+    requires agree { LiveCrewAgrees book.now crew (view_of seat) }
+    requires holds { HoldsLiveCrew crew (view_of seat) }
     ensures board { IsSeatOf board.now result.0 }
     ensures crew { IsCrewOf book.now result.1 }
     ensures rounds { result.1.rounds ≡ crew.entry.rounds }
-    ensures agree { AllAgree book.now result.1 (view_of result.0) }
-    ensures holds { HoldsAll result.1 (view_of result.0) }
+    ensures agree { LiveCrewAgrees book.now result.1 (view_of result.0) }
+    ensures holds { HoldsLiveCrew result.1 (view_of result.0) }
     ensures actors { SameActors (view_of seat) (view_of result.0) }
     ensures planned { HasPlanned book.now (planner_of result.1) }
     ensures stopped { StoppedAt (planner_of result.1) result.2 }
@@ -92,7 +92,7 @@ pub fn run_live<'a, R: Threads + Wait + Sync, G: Gate>(
     ensures complete { IfNone result.2 ((course : CourseView) → IsLiveCourse book.now course
         → IsComplete course result.1.rounds (state_of course (view_of result.0))) }
     ensures counts { IfNone result.2 ((course : CourseView) → IsLiveCourse book.now course
-        → (c : ℕ) (a : LiveActorView) → actor_of result.1 c ≡ Some a
+        → (c : ℕ) (a : LiveActorView) → live_actor_of result.1 c ≡ Some a
         → a.state.used ≡ (state_of course (view_of result.0)).decided) }
 {
     let LiveCrew {
@@ -111,10 +111,10 @@ pub fn run_live<'a, R: Threads + Wait + Sync, G: Gate>(
         { plan_all(rt, alloc, book, maker, gate) },
         move || -> (RoundSeat, Vec<Player<Member<'_>>>, Player<Lead<'_>>)
             requires { IsSync R.row × IsSync G.row × IsSeatOf board.now seat
-                × AreHeld core_kind lead_kind members.items lead (view_of seat) }
+                × AreHeld live_core_kind live_lead_kind members.items lead (view_of seat) }
             ensures { IsSeatOf board.entry.now result.0
-                × AreHeld core_kind lead_kind result.1.items result.2 (view_of result.0)
-                × AreSame core_kind lead_kind members.entry.items lead.entry result.1.items result.2
+                × AreHeld live_core_kind live_lead_kind result.1.items result.2 (view_of result.0)
+                × AreSame live_core_kind live_lead_kind members.entry.items lead.entry result.1.items result.2
                 × SameActors (view_of seat) (view_of result.0) }
         { work_beside(rt, board, seat, members, lead, lag, gate, patience) },
     );

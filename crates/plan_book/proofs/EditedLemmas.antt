@@ -3,7 +3,7 @@ use Rattle.std.proofs.Common.{◌≡◌, ◌-◌, false, List, [], ◌∷◌, �
 use Rattle.std.proofs.lemmas.List.{length-map}
 use Rattle.tab_core.proofs.Alike.{same_host, same_vcpu}
 use Rattle.tab_core.specs.Edits.{IsEdited, reservations_of}
-use Rattle.tab_core.specs.Vcpus.{capped_of}
+use Rattle.tab_core.specs.Vcpus.{capped_set}
 use Rattle.tab_core.specs.declared.TheConstants.{MAX_VCPUS}
 use Rattle.tab_core.specs.declared.edit.Edit.{Edit}
 use Rattle.tab_core.specs.declared.host.Host.{Host}
@@ -48,7 +48,7 @@ same_count host edits new of =
 
 -- the host keeps its capped vCPUs
 pub edited_capped : (host : Host) (edits : List Edit) (new : Host) → IsEdited host edits new
-    → capped_of new.vcpus ≡ capped_of host.vcpus
+    → capped_set new.vcpus ≡ capped_set host.vcpus
 edited_capped host edits new of =
     ap (λ flags. flags ++ replicate (MAX_VCPUS - length new.vcpus) false) of.capped
     ∙ ap (λ count. map (λ (vcpu : Vcpu). vcpu.capped) host.vcpus ++ replicate (MAX_VCPUS - count) false)

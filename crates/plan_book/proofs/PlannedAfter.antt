@@ -1,7 +1,7 @@
 -- What is known after the first n events is a host with its plan, for the same vCPUs, of which the same
 -- are capped.
 use Rattle.std.proofs.Common.{◌≡◌, ◌≤◌, inl, inr, ℕ, zero, suc, List, length, ap, ◌∙◌}
-use Rattle.tab_core.specs.Vcpus.{capped_of}
+use Rattle.tab_core.specs.Vcpus.{capped_set}
 use Rattle.tab_core.specs.declared.host.Host.{Host}
 use Rattle.table_form.specs.Running.Courses.{CourseView, plan_after}
 use Rattle.table_form.specs.Tables.Plans.{PlanView}
@@ -32,26 +32,26 @@ known_planned host events (suc n) known is =
 
 -- an event leaves the capped vCPUs as they are
 applied_capped : (before : BookState) (act : Act) (next : BookState) → Applies before act next
-    → capped_of next.host.vcpus ≡ capped_of before.host.vcpus
-applied_capped before (Wake vcpu) next is = ap (λ (k : BookState). capped_of k.host.vcpus) is
-applied_capped before (Block vcpu) next is = ap (λ (k : BookState). capped_of k.host.vcpus) is
+    → capped_set next.host.vcpus ≡ capped_set before.host.vcpus
+applied_capped before (Wake vcpu) next is = ap (λ (k : BookState). capped_set k.host.vcpus) is
+applied_capped before (Block vcpu) next is = ap (λ (k : BookState). capped_set k.host.vcpus) is
 applied_capped before (Change edits) next (inl taken) =
     edited_capped before.host edits next.host taken.edited
 applied_capped before (Change edits) next (inr refused) =
-    ap (λ (k : BookState). capped_of k.host.vcpus) refused.becomes
-applied_capped before (Burst vcpu work) next is = ap (λ (k : BookState). capped_of k.host.vcpus) is
+    ap (λ (k : BookState). capped_set k.host.vcpus) refused.becomes
+applied_capped before (Burst vcpu work) next is = ap (λ (k : BookState). capped_set k.host.vcpus) is
 
 -- the capped vCPUs of each known host are the first host's
 known_capped : (host : Host) (events : List Event) (n : ℕ) (known : BookState)
-    → IsKnownAfter host events n known → capped_of known.host.vcpus ≡ capped_of host.vcpus
-known_capped host events zero known is = ap (λ (h : Host). capped_of h.vcpus) is.host_is
+    → IsKnownAfter host events n known → capped_set known.host.vcpus ≡ capped_set host.vcpus
+known_capped host events zero known is = ap (λ (h : Host). capped_set h.vcpus) is.host_is
 known_capped host events (suc n) known is =
     applied_capped is.0 is.1.act known is.4 ∙ known_capped host events n is.0 is.2
 
 -- the capped vCPUs of each plan of a course are the first host's
 pub course_capped : (host : Host) (events : List Event) (course : CourseView) (n : ℕ)
     → IsCourseOf host events course → n ≤ length events
-    → (plan_after course n).capped ≡ capped_of host.vcpus
+    → (plan_after course n).capped ≡ capped_set host.vcpus
 course_capped host events course n of le =
     let after = of.after n le in
     ap (λ (p : PlanView). p.capped) after.shows.plan

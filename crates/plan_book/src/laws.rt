@@ -1,5 +1,5 @@
 ghost use Rattle.std.specs.Prelude.{◌≡◌, ◌≤◌, List, ℕ, length};
-ghost use Rattle.tab_core.specs.Vcpus.{capped_of};
+ghost use Rattle.tab_core.specs.Vcpus.{capped_set};
 ghost use Rattle.tab_core.specs.declared.host.Host.{Host};
 ghost use Rattle.table_form.specs.Running.Courses.{CourseView, IsCourseForm, plan_after};
 ghost use Rattle.script_doc.specs.declared.event.Event.{Event};
@@ -11,7 +11,7 @@ ghost use Rattle.plan_book.specs.States.{BookState};
 pub fn the_capped_stay_capped()
     ensures { (host : Host) (events : List Event) (course : CourseView) (n : ℕ)
         → IsCourseOf host events course → n ≤ length events
-        → (plan_after course n).capped ≡ capped_of host.vcpus }
+        → (plan_after course n).capped ≡ capped_set host.vcpus }
 {}
 
 /// No event changes the tick, so each host that a script leads to has that of the first.

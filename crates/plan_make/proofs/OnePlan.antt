@@ -4,7 +4,7 @@ use Rattle.std.proofs.Props.{props}
 use Rattle.std.specs.List.{All, AllZip}
 use Rattle.std.proofs.lemmas.List.{ext_get_or}
 use Rattle.std.proofs.lemmas.List.Elements.{All-head, All-tail}
-use Rattle.tab_core.specs.Vcpus.{capped_of}
+use Rattle.tab_core.specs.Vcpus.{capped_set}
 use Rattle.tab_core.specs.declared.TheConstants.{MAX_CORES, MAX_VCPUS}
 use Rattle.tab_core.specs.declared.host.Host.{Host}
 use Rattle.tab_core.specs.declared.over.Over.{Over}
@@ -278,7 +278,7 @@ pub record IsMadeOf (host : Host) (tasks : List (Option Periodic)) (cores : List
   pub rows_are : rows ≡ map (λ pieces. edf_row (jobs_of pieces)) cores
   pub tasks_are : plan.tasks ≡ tasks
   pub homes_are : plan.homes ≡ homes
-  pub capped_are : plan.capped ≡ capped_of host.vcpus
+  pub capped_are : plan.capped ≡ capped_set host.vcpus
   pub joined : AreJoined pieces plan.capped host.sliver rows plan.rows
 
 -- the rows of the plan are joined from those of the layout, though the draft's lists are other values

@@ -10,7 +10,7 @@ use Rattle.tab_core.specs.declared.periodic.Periodic.{Periodic}
 use Rattle.tab_core.specs.declared.piece.Piece.{Piece}
 use Rattle.table_form.specs.Planning.Demand.{Fits}
 use Rattle.table_form.specs.Planning.Jobs.{Subtask, jobs_of, subtask_of}
-use Rattle.edf_table.specs.Load.{AreUnsplit, load}
+use Rattle.edf_table.specs.Load.{AreUnsplit, load_of_pieces}
 use Rattle.edf_table.proofs.LoadLemmas.{unsplit_fits}
 use Rattle.worst_fit.specs.Load.{is_on, load_on, task_demand}
 use Rattle.worst_fit.proofs.LoadLemmas.{load_on-nil}
@@ -132,7 +132,7 @@ abbrev ticks_of : Subtask → ℕ
 ticks_of s = s.cost * (ROUND / s.period)
 
 -- the load that makes pieces fit, by subtasks
-load_of_subtasks : (ps : List Piece) → load ps ≡ sum_by ticks_of (map subtask_of ps)
+load_of_subtasks : (ps : List Piece) → load_of_pieces ps ≡ sum_by ticks_of (map subtask_of ps)
 load_of_subtasks [] = refl
 load_of_subtasks (p ∷ ps) =
     let rest = load_of_subtasks ps in

@@ -4,7 +4,7 @@
 -- predictable VM scheduler for high-density workloads", EuroSys 2018, in ticks, periods and ties of
 -- this project. That vCPUs stay is this project's.
 use Rattle.std.specs.Prelude.{◌≡◌, ℕ, List, [], ◌∷◌, ◌++◌, Option, map}
-use Rattle.tab_core.specs.Vcpus.{capped_of}
+use Rattle.tab_core.specs.Vcpus.{capped_set}
 use Rattle.tab_core.specs.declared.host.Host.{Host}
 use Rattle.tab_core.specs.declared.over.Over.{Over}
 use Rattle.tab_core.specs.declared.periodic.Periodic.{Periodic}
@@ -27,7 +27,7 @@ all_pieces (ps ∷ cores) = ps ++ all_pieces cores
 pub record IsStayingPlan (old_homes : List (Option ℕ)) (host : Host) (plan : PlanView) : Type 0 where
   pub cores : List (List Piece)
   pub layout : IsStayingLayout old_homes host plan.tasks cores plan.homes
-  pub capped : plan.capped ≡ capped_of host.vcpus
+  pub capped : plan.capped ≡ capped_set host.vcpus
   pub joined : AreJoined (all_pieces cores) plan.capped host.sliver
       (map (λ pieces. edf_row (jobs_of pieces)) cores) plan.rows
 

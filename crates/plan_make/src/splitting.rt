@@ -4,7 +4,7 @@ ghost use Rattle.cd_split.specs.Faults.{IsSplitFault};
 ghost use Rattle.cd_split.specs.Shares.{FitTheirCores, StandApart};
 ghost use Rattle.worst_fit.specs.Placement.{IsAdmitted};
 ghost use Rattle.plan_make.specs.Inside.Allotted.{AreLaidOut};
-ghost use Rattle.plan_make.specs.Inside.Splits.{IsAdded, IsRefusedNext, IsStuckFault, SplitsNext};
+ghost use Rattle.plan_make.specs.Inside.Splits.{AddsPieces, IsRefusedNext, IsStuckFault, SplitsNext};
 ghost use Rattle.plan_make.specs.SplitInTurn.{SplitsEach, home_of, with_pieces};
 
 use cd_split::{CorePieces, SplitFault, split};
@@ -40,7 +40,7 @@ fn add_split(
     cores: &mut CorePieces,
 ) -> Result<CoreNo, SplitFault>
     requires { All (LackVcpu vcpu) cores.old }
-    ensures ok { IfOk result (IsAdded cores.old vcpu task cores.new) }
+    ensures ok { IfOk result (AddsPieces cores.old vcpu task cores.new) }
     ensures fault { IfErr result (IsSplitFault cores.old vcpu task) }
 {
     let pieces = split(alloc, vcpu, task, cores)?;

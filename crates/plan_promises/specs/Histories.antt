@@ -3,7 +3,7 @@
 -- Source: the rules of this project.
 use Rattle.std.specs.Prelude.{◌≡◌, ◌⊎◌, ℕ, suc, ◌≤◌, Bool, true, false, List, Some, length, slice_get, slice_set}
 use Rattle.tab_core.specs.Edits.{IsEdited}
-use Rattle.tab_core.specs.Vcpus.{capped_of, runnable_at_first}
+use Rattle.tab_core.specs.Vcpus.{capped_set, runnable_at_first}
 use Rattle.tab_core.specs.declared.host.Host.{Host}
 use Rattle.table_form.specs.Running.Courses.{CourseView, plan_after, runnable_after}
 use Rattle.table_form.specs.Tables.Homes.{HaveHomes}
@@ -35,7 +35,7 @@ pub record IsPlanOn (host : Host) (plan : PlanView) : Type 0 where
   pub rows : length plan.rows ≡ host.cores
   pub owned : OwnersHaveTasks plan.tasks plan.rows
   pub housed : HaveHomes plan.tasks plan.homes plan.rows
-  pub capped : plan.capped ≡ capped_of host.vcpus
+  pub capped : plan.capped ≡ capped_set host.vcpus
 
 -- The hosts after each count of first events, and the course: it has the host's cores and lag, the events'
 -- ticks, who is runnable after each count, and a plan

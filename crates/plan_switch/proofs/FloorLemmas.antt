@@ -11,7 +11,7 @@ use Rattle.round_words.specs.Views.{IsStarted, controller, holds, last_of, part,
 use Rattle.round_words.proofs.ChangesLemmas.{started_still}
 use Rattle.round_words.proofs.ListLemmas.{index_append, length_push}
 use Rattle.plan_switch.specs.declared.state.ControlState.{ControlState}
-use Rattle.plan_switch.specs.Controllers.{AreFloorsOf, HasPosted, IsNewPart, floor_of}
+use Rattle.plan_switch.specs.Controllers.{AreFloorsOf, HasPosted, IsNewControlPart, floor_of}
 
 -- a number after a list
 index_new : (xs : List ℕ) (x : ℕ) → slice_index (xs ++ x ∷ []) (length xs) ≡ x
@@ -20,7 +20,7 @@ index_new (y ∷ ys) x = index_new ys x
 
 -- a new controller agrees with a part to which nothing has happened
 pub posted_new : (o : OutlineView) (s : ControlState) (v : View) → s.posted ≡ 0 → ((d : ℕ) → slice_index s.known d ≡ 0)
-    → IsStarted o.lag o.cores (length o.ticks) v → holds v controller ≡ true → IsNewPart (part v controller) → HasPosted o s v
+    → IsStarted o.lag o.cores (length o.ticks) v → holds v controller ≡ true → IsNewControlPart (part v controller) → HasPosted o s v
 posted_new o s v none unknown of has new = record {
   of_outline = of;
   holds_it = has;

@@ -19,7 +19,7 @@ abbrev pub controller_view : CourseView → ControlState → ControllerView
 controller_view course state = record { course = course; state = state }
 
 -- nothing has happened to the controller's part
-pub record IsNewPart (p : Part) : Type 0 where
+pub record IsNewControlPart (p : Part) : Type 0 where
   pub heard : (d : ℕ) → heard_of p d ≡ []
   pub floors : p.floors ≡ []
 
@@ -42,5 +42,5 @@ pub record HasPosted (o : OutlineView) (s : ControlState) (v : View) : Type 0 wh
   pub known : KnowsClocks s.known (part v controller)
 
 -- the controller of the course agrees with its part of the view
-abbrev pub AgreesWith : CourseView → ControlState → View → Type 0
-AgreesWith course s v = HasPosted (outline_of course) s v
+abbrev pub ControlAgreesWith : CourseView → ControlState → View → Type 0
+ControlAgreesWith course s v = HasPosted (outline_of course) s v

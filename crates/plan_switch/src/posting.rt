@@ -3,7 +3,7 @@ ghost use Rattle.table_form.specs.Running.Courses.{outline_of};
 ghost use Rattle.round_words.specs.Changes.{ChangesOnly};
 ghost use Rattle.round_words.specs.Seats.{view_of, IsSeatOf};
 ghost use Rattle.round_words.specs.Views.{controller as the_controller};
-ghost use Rattle.plan_switch.specs.Controllers.{AgreesWith, HasPosted};
+ghost use Rattle.plan_switch.specs.Controllers.{ControlAgreesWith, HasPosted};
 ghost use Rattle.plan_switch.specs.Told.{ControlTold};
 
 use crate::answer::ControlAnswer;
@@ -27,9 +27,9 @@ pub fn control_step(
     controller: &mut Controller<'_>,
 ) -> ControlAnswer
     requires board { IsSeatOf board.now seat.old }
-    requires agrees { AgreesWith controller.old.course controller.old.state (view_of seat.old) }
+    requires agrees { ControlAgreesWith controller.old.course controller.old.state (view_of seat.old) }
     ensures board { IsSeatOf board.now seat.new }
-    ensures agrees { AgreesWith controller.new.course controller.new.state (view_of seat.new) }
+    ensures agrees { ControlAgreesWith controller.new.course controller.new.state (view_of seat.new) }
     ensures course { controller.new.course ≡ controller.old.course }
     ensures changes { ChangesOnly (view_of seat.old) (view_of seat.new) the_controller }
     ensures told { ControlTold (outline_of controller.old.course) controller.old.state.posted (view_of seat.old) result

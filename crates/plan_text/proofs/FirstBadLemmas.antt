@@ -1,10 +1,10 @@
 -- The first bad line, line by line.
 use Rattle.std.proofs.Common.{◌≡◌, ℕ, ◌+◌, ◌≤◌, List, [], ◌∷◌, ◌++◌, length, refl, sym, ap, ◌∙◌, subst, append_assoc, append-nil, arith}
-use Rattle.plan_text.specs.FirstBad.{GoesWrong, IsBegun, IsFirstBadFor}
-use Rattle.plan_text.specs.PlanLines.{Line}
+use Rattle.tab_words.specs.Texts.{Line}
+use Rattle.plan_text.specs.FirstBad.{BeginsText, GoesWrong, IsFirstBadFor}
 
 -- the first line itself is bad
-pub first_is_bad : (Texts : List Line → Type 0) (first : ℕ) (lines : List Line) → IsBegun Texts []
+pub first_is_bad : (Texts : List Line → Type 0) (first : ℕ) (lines : List Line) → BeginsText Texts []
     → ((line : Line) (back : List Line) → lines ≡ line ∷ back → (rest : List Line) → Texts (line ∷ rest) → ⊥)
     → (lines ≡ [] → Texts [] → ⊥) → IsFirstBadFor Texts first lines first
 first_is_bad Texts first [] begun bad none = record {
@@ -20,7 +20,7 @@ first_is_bad Texts first (line ∷ back) begun bad none = record {
   back = line ∷ back;
   whole = refl;
   begun = begun;
-  wrong = λ (b : IsBegun Texts (line ∷ [])). bad line back refl b.rest b.text;
+  wrong = λ (b : BeginsText Texts (line ∷ [])). bad line back refl b.rest b.text;
   number = omega arith;
 }
 
@@ -30,7 +30,7 @@ wrong_behind : (Texts More : List Line → Type 0) (line : Line) (front back : L
     → GoesWrong Texts (line ∷ front) back
 wrong_behind Texts More line front [] goes wrong = λ text. wrong (goes front text)
 wrong_behind Texts More line front (next ∷ back) goes wrong =
-    λ (b : IsBegun Texts ((line ∷ front) ++ next ∷ [])).
+    λ (b : BeginsText Texts ((line ∷ front) ++ next ∷ [])).
     wrong (record { rest = b.rest; text = goes ((front ++ next ∷ []) ++ b.rest) b.text })
 
 -- the first line goes well, and after it there are these texts
@@ -53,12 +53,12 @@ wrong_of_both : (Texts Fewer : List Line → Type 0) (front back : List Line)
     → Fewer (line ∷ more))
     → (front ++ back ≡ [] → Texts [] → Fewer []) → GoesWrong Fewer front back → GoesWrong Texts front back
 wrong_of_both Texts Fewer [] [] same none wrong = λ text. wrong (none refl text)
-wrong_of_both Texts Fewer [] (line ∷ back) same none wrong = λ (b : IsBegun Texts (line ∷ [])).
+wrong_of_both Texts Fewer [] (line ∷ back) same none wrong = λ (b : BeginsText Texts (line ∷ [])).
     wrong (record { rest = b.rest; text = same line back b.rest refl b.text })
 wrong_of_both Texts Fewer (line ∷ front) [] same none wrong =
     λ text. wrong (same line (front ++ []) front refl text)
 wrong_of_both Texts Fewer (line ∷ front) (next ∷ back) same none wrong =
-    λ (b : IsBegun Texts ((line ∷ front) ++ next ∷ [])).
+    λ (b : BeginsText Texts ((line ∷ front) ++ next ∷ [])).
     wrong (record {
       rest = b.rest;
       text =
@@ -96,7 +96,7 @@ no_text Texts first lines bad is text = of_parts is.front is.back is.wrong (subs
 -- the prefix before the first bad line isn't longer than another that some text begins with
 not_longer : (Texts : List Line → Type 0) (before front back longer rest : List Line)
     → front ++ back ≡ longer ++ rest
-    → GoesWrong Texts (before ++ front) back → IsBegun Texts (before ++ longer) → length longer ≤ length front
+    → GoesWrong Texts (before ++ front) back → BeginsText Texts (before ++ longer) → length longer ≤ length front
 not_longer Texts before front back [] rest same wrong begun = omega arith
 not_longer Texts before [] [] (line ∷ longer) rest same wrong begun = absurd (cc)
 not_longer Texts before [] (next ∷ back) (line ∷ longer) rest same wrong begun =
@@ -116,7 +116,7 @@ not_longer Texts before (first ∷ front) back (line ∷ longer) rest same wrong
     let moved' : before ++ line ∷ longer ≡ (before ++ first ∷ []) ++ longer =
     ap (λ l. before ++ l ∷ longer) (sym is) ∙ sym (append_assoc before (first ∷ []) longer) in
     let less = not_longer Texts (before ++ first ∷ []) front back longer rest tails
-    (subst (λ ls. GoesWrong Texts ls back) moved wrong) (subst (IsBegun Texts) moved' begun) in
+    (subst (λ ls. GoesWrong Texts ls back) moved wrong) (subst (BeginsText Texts) moved' begun) in
     omega arith
 
 -- there is one first bad line

@@ -10,15 +10,15 @@ use Rattle.tab_core.proofs.Periods.{period_facts}
 use Rattle.tab_core.specs.Name.{IsName, is_lone_dash, is_byte_of_name}
 use Rattle.tab_core.specs.declared.TheConstants.{MAX_CORES, MAX_NAME, MAX_VCPUS, ROUND}
 use Rattle.tab_core.specs.declared.periodic.Periodic.{Periodic}
-use Rattle.tab_words.specs.Texts.{text_of}
+use Rattle.tab_words.specs.Texts.{Line, text_of, worded}
 use Rattle.tab_words.proofs.TextLemmas.{decimal_word, is_line, is_plain, is_word, text_read}
 use Rattle.table_form.specs.Tables.Homes.{are_housed, is_housed}
 use Rattle.table_form.specs.declared.raw_tables.RawTables.{RawTables}
 use Rattle.table_form.specs.declared.segment.Segment.{Segment}
 use Rattle.vcpu_names.specs.Names.{name_at, owner_word}
-use Rattle.plan_text.specs.Meaning.{AreFineRows, IsFine, IsFineSegment, segment_words, worded}
+use Rattle.plan_text.specs.Meaning.{AreFineRows, IsFine, IsFineSegment, segment_words}
 use Rattle.plan_text.specs.Names.{AreHostNames}
-use Rattle.plan_text.specs.PlanLines.{Line, core_lines, core_words, end_words, head_words, is_admitted, plan_lines, vcpu_lines, vcpu_part, vcpu_words}
+use Rattle.plan_text.specs.PlanLines.{core_lines, core_words, end_words, head_words, is_admitted, plan_lines, vcpu_lines, vcpu_part, vcpu_words}
 use Rattle.table_form.proofs.TaskLemmas.{task_within}
 
 -- ---- words and lines

@@ -1,10 +1,10 @@
 -- The homes that lines give, one line after the other.
 use Rattle.std.proofs.Common.{◌≡◌, ℕ, ◌+◌, ◌<◌, List, [], ◌∷◌, ◌++◌, Option, None, get_or, length, take, refl, sym, ap, ◌∙◌, arith}
 use Rattle.std.proofs.lemmas.List.{ext_get_or, take_more}
+use Rattle.tab_words.specs.Texts.{Line}
 use Rattle.vcpu_names.specs.Names.{name_at}
 use Rattle.plan_text.specs.OldHomes.{AreHomesNamed, AreOldHomes, home_behind, home_named}
 use Rattle.plan_text.specs.OldText.{NamedHome}
-use Rattle.plan_text.specs.PlanLines.{Line}
 use Rattle.plan_text.proofs.OldReadingLemmas.{one_old_text}
 
 -- after one line more it is that line's home, if it has the name

@@ -1,11 +1,12 @@
 -- What may follow in an old text, line by line.
 use Rattle.std.proofs.Common.{◌≡◌, ◌≢◌, inl, inr, ℕ, ◌+◌, List, [], ◌∷◌, decimal, refl, sym, ap, ◌∙◌, subst, lit<}
 use Rattle.std.proofs.lemmas.Fmt.{decimal_injective}
-use Rattle.plan_text.specs.FirstBad.{IsBegun, IsFirstBadFor}
+use Rattle.tab_words.specs.Texts.{Line}
+use Rattle.plan_text.specs.FirstBad.{BeginsText, IsFirstBadFor}
 use Rattle.plan_text.specs.Inside.OldReading.{AreSomeOldVcpus, IsEnd, IsRowLine, IsSomeHomeLine, StartsOtherwise}
 use Rattle.plan_text.specs.Inside.Reading.{IsOtherLine}
 use Rattle.plan_text.specs.OldText.{AreOldRows, AreOldVcpus, IsHomeLine, IsOldHead, IsOldText, IsSomeOldText, NamedHome}
-use Rattle.plan_text.specs.PlanLines.{Line, end_words, head_words}
+use Rattle.plan_text.specs.PlanLines.{end_words, head_words}
 use Rattle.plan_text.proofs.FirstBadLemmas.{bad_behind, bad_of_both, first_is_bad}
 
 -- ---- lines that differ
@@ -123,7 +124,7 @@ bad_behind_homes first bad lines none is = bad_of_both AreSomeOldVcpus AreOldRow
 
 -- ---- the first line
 
-text_begun : IsBegun IsSomeOldText []
+text_begun : BeginsText IsSomeOldText []
 text_begun = record {
   rest = head_words 0 0 ∷ end_words ∷ [];
   text = (

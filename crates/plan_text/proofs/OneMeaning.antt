@@ -10,13 +10,14 @@ use Rattle.tab_core.specs.Name.{IsName}
 use Rattle.tab_core.specs.declared.TheConstants.{MAX_CORES, MAX_VCPUS}
 use Rattle.tab_core.specs.declared.periodic.Periodic.{Periodic}
 use Rattle.tab_core.proofs.Alike.{one_owner_proof}
+use Rattle.tab_words.specs.Texts.{Line}
 use Rattle.table_form.specs.Tables.Homes.{are_housed}
 use Rattle.table_form.specs.Tables.Serves.{has_task}
 use Rattle.table_form.specs.declared.raw_tables.RawTables.{RawTables}
 use Rattle.table_form.specs.declared.segment.Segment.{Segment}
 use Rattle.plan_text.specs.Names.{AreHostNames}
 use Rattle.plan_text.specs.Meaning.{AreFineRows, AreLinesOf, IsFineSegment, segment_words}
-use Rattle.plan_text.specs.PlanLines.{Line, core_lines, end_words, vcpu_lines}
+use Rattle.plan_text.specs.PlanLines.{core_lines, end_words, vcpu_lines}
 use Rattle.vcpu_names.specs.Names.{owner_word}
 use Rattle.plan_text.proofs.ReadingLemmas.{core_is_no_end, core_is_no_segment, end_is_no_segment}
 use Rattle.table_form.proofs.TaskLemmas.{task_within}

@@ -11,7 +11,7 @@ use Rattle.tab_words.proofs.CutLemmas.{cut, front_lacks}
 use Rattle.tab_words.proofs.LineLemmas.{lines_of-line}
 use Rattle.tab_words.proofs.NumberLemmas.{digit_below, spells_value}
 use Rattle.tab_words.proofs.WordLemmas.{words_of-last, words_of-word}
-use Rattle.plan_text.specs.Meaning.{worded}
+use Rattle.tab_words.specs.Texts.{worded}
 use Rattle.plan_text.proofs.FirstLineLemmas.{behind}
 
 -- digits have no byte that is none

@@ -7,13 +7,13 @@ use Rattle.tab_core.specs.declared.vcpu.Vcpu.{Vcpu}
 use Rattle.tab_io.specs.Sinks.{Writes}
 use Rattle.tab_io.specs.Views.{SinkView}
 use Rattle.tab_io.specs.declared.sink.WriteFault.{WriteFault}
-use Rattle.tab_words.specs.Texts.{line_of, text_of}
+use Rattle.tab_words.specs.Texts.{Line, line_of, text_of}
 use Rattle.table_form.specs.Tables.Segments.{SegmentView, segments_from}
 use Rattle.table_form.specs.Tables.Plans.{PlanView}
 use Rattle.table_form.specs.Tables.Rows.{Row}
 use Rattle.vcpu_names.specs.Names.{names_of}
 use Rattle.vcpu_names.proofs.NamesLemmas.{name_here}
-use Rattle.plan_text.specs.PlanLines.{Line, core_lines, core_words, end_words, head_words, is_admitted, vcpu_lines, vcpu_part}
+use Rattle.plan_text.specs.PlanLines.{core_lines, core_words, end_words, head_words, is_admitted, vcpu_lines, vcpu_part}
 use Rattle.plan_text.specs.PlanText.{plan_text, segment_line, view_words}
 use Rattle.plan_text.proofs.ReadingVcpuLemmas.{first_is}
 

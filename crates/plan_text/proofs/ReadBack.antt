@@ -9,7 +9,7 @@ use Rattle.std.proofs.lemmas.Option.{slice_get-get_or}
 use Rattle.tab_core.specs.declared.TheConstants.{MAX_VCPUS, ROUND}
 use Rattle.tab_core.specs.declared.host.Host.{Host}
 use Rattle.tab_core.specs.declared.periodic.Periodic.{Periodic}
-use Rattle.tab_words.specs.Texts.{text_of}
+use Rattle.tab_words.specs.Texts.{text_of, worded}
 use Rattle.table_form.specs.Tables.Homes.{are_housed}
 use Rattle.table_form.specs.Tables.Plans.{PlanView}
 use Rattle.table_form.specs.Tables.Rows.{Row}
@@ -19,7 +19,7 @@ use Rattle.table_form.specs.declared.raw_tables.RawTables.{RawTables}
 use Rattle.table_form.specs.declared.segment.Segment.{Segment}
 use Rattle.table_form.proofs.SegmentLemmas.{segments_from-cons, segments_from-nil}
 use Rattle.vcpu_names.specs.Names.{names_of}
-use Rattle.plan_text.specs.Meaning.{AreFineRows, IsFine, IsFineSegment, segment_words, worded}
+use Rattle.plan_text.specs.Meaning.{AreFineRows, IsFine, IsFineSegment, segment_words}
 use Rattle.plan_text.specs.PlanLines.{core_lines, core_words, end_words, head_words, is_admitted, plan_lines, vcpu_lines}
 use Rattle.plan_text.specs.PlanText.{plan_text, view_words}
 use Rattle.plan_text.specs.Written.{IsHostWithPlan, IsReadBack}

@@ -15,14 +15,15 @@ use Rattle.tab_words.specs.Lines.{lines_of, raw_lines_of, without_feed}
 use Rattle.tab_words.specs.Words.{words_of}
 use Rattle.tab_words.proofs.LineLemmas.{length-raw_lines_of, length-without_feed}
 use Rattle.tab_words.proofs.WordLemmas.{words_of-last, words_of-nil, words_of-space}
+use Rattle.tab_words.specs.Texts.{Line, worded}
 use Rattle.table_form.specs.Tables.Homes.{are_housed}
 use Rattle.table_form.specs.declared.raw_tables.RawTables.{RawTables}
 use Rattle.table_form.specs.declared.segment.Segment.{Segment}
 use Rattle.vcpu_names.specs.Names.{AreNames, name_at, names_of}
-use Rattle.plan_text.specs.FirstBad.{IsBegun, IsFirstBadFor}
+use Rattle.plan_text.specs.FirstBad.{BeginsText, IsFirstBadFor}
 use Rattle.plan_text.specs.Names.{AreHostNames}
-use Rattle.plan_text.specs.Meaning.{AreFineRows, AreLinesOf, IsSomePlan, segment_words, worded}
-use Rattle.plan_text.specs.PlanLines.{Line, core_lines, end_words, head_words, is_admitted, vcpu_lines}
+use Rattle.plan_text.specs.Meaning.{AreFineRows, AreLinesOf, IsSomePlan, segment_words}
+use Rattle.plan_text.specs.PlanLines.{core_lines, end_words, head_words, is_admitted, vcpu_lines}
 use Rattle.plan_text.specs.Inside.Reading.{AreFromVcpu}
 use Rattle.plan_text.specs.declared.read_fault.ReadPlan.{ReadPlan}
 use Rattle.plan_text.specs.declared.read_fault.ReadPlan.TheVariants.{BadLine, NoMemory}
@@ -175,7 +176,7 @@ head_goes names tasks cores line lines plan =
 
 -- for each host some text is possible
 plan_begun : (names : List (List ℕ)) (tasks : List (Option Periodic)) (cores : ℕ) → 0 < cores
-    → IsBegun (IsSomePlan names cores tasks) []
+    → BeginsText (IsSomePlan names cores tasks) []
 plan_begun names tasks cores some =
     let begun = vcpus_begun names tasks cores 0 some in
     record {

@@ -5,10 +5,11 @@ use Rattle.std.specs.List.{All}
 use Rattle.std.specs.Str.Parse.{AllDigits}
 use Rattle.std.proofs.lemmas.Fmt.{decimal_is_IsNumeral}
 use Rattle.tab_core.specs.declared.periodic.Periodic.{Periodic}
+use Rattle.tab_words.specs.Texts.{Line}
 use Rattle.table_form.specs.declared.segment.Segment.{Segment}
-use Rattle.plan_text.specs.FirstBad.{IsBegun, IsFirstBadFor}
+use Rattle.plan_text.specs.FirstBad.{BeginsText, IsFirstBadFor}
 use Rattle.plan_text.specs.Meaning.{AreFineRows, IsFineSegment, segment_words}
-use Rattle.plan_text.specs.PlanLines.{Line, core_lines, core_words, end_words}
+use Rattle.plan_text.specs.PlanLines.{core_lines, core_words, end_words}
 use Rattle.plan_text.specs.Inside.Reading.{AreFromCore, AreFromSegment, IsNoSegment, IsOtherLine}
 use Rattle.plan_text.proofs.FirstBadLemmas.{bad_behind, bad_of_both, first_is_bad}
 
@@ -52,7 +53,7 @@ many_empty (suc count) = ap suc (many_empty count)
 
 -- with no line read some text is still possible
 pub rows_begun : (names : List (List ℕ)) (tasks : List (Option Periodic)) (core count : ℕ)
-    → IsBegun (AreFromCore names tasks core count) []
+    → BeginsText (AreFromCore names tasks core count) []
 rows_begun names tasks core count = record {
   rest = core_lines (segment_words names) core (replicate count []) ++ end_words ∷ [];
   text = record {
@@ -156,7 +157,7 @@ rows_lack names tasks core (row ∷ rows) s lines fine is = core_is_no_segment n
 
 -- after a core's line some text is still possible
 pub segments_begun : (names : List (List ℕ)) (tasks : List (Option Periodic)) (core count : ℕ)
-    → IsBegun (AreFromSegment names tasks core count) []
+    → BeginsText (AreFromSegment names tasks core count) []
 segments_begun names tasks core count =
     let begun = rows_begun names tasks core count in
     record {

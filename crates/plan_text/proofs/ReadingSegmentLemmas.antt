@@ -4,10 +4,10 @@ use Rattle.std.proofs.lemmas.Bool.{false≢true}
 use Rattle.std.specs.Option.{ForSome}
 use Rattle.tab_core.specs.Name.{IsName}
 use Rattle.tab_core.specs.declared.periodic.Periodic.{Periodic}
+use Rattle.tab_words.specs.Texts.{Line}
 use Rattle.table_form.specs.Tables.Serves.{has_task}
 use Rattle.vcpu_names.specs.Names.{IsUnknown, name_at, owner_word}
 use Rattle.plan_text.specs.Names.{AreHostNames}
-use Rattle.plan_text.specs.PlanLines.{Line}
 use Rattle.plan_text.specs.Inside.Reading.{IsNoSegmentLine}
 use Rattle.table_form.proofs.TaskLemmas.{task_within}
 

@@ -4,10 +4,11 @@ use Rattle.std.proofs.lemmas.Bool.{and_parts}
 use Rattle.std.proofs.lemmas.Bool.Decides.{nat_tests}
 use Rattle.std.proofs.lemmas.List.{take_all, take_more}
 use Rattle.tab_core.specs.declared.periodic.Periodic.{Periodic}
+use Rattle.tab_words.specs.Texts.{Line}
 use Rattle.table_form.specs.Tables.Homes.{are_housed, is_housed}
 use Rattle.vcpu_names.specs.Names.{name_at}
-use Rattle.plan_text.specs.FirstBad.{IsBegun, IsFirstBadFor}
-use Rattle.plan_text.specs.PlanLines.{Line, vcpu_lines, vcpu_part, vcpu_words}
+use Rattle.plan_text.specs.FirstBad.{BeginsText, IsFirstBadFor}
+use Rattle.plan_text.specs.PlanLines.{vcpu_lines, vcpu_part, vcpu_words}
 use Rattle.plan_text.specs.Inside.Reading.{AreFromCore, AreFromVcpu, IsNoVcpu}
 use Rattle.plan_text.proofs.FirstBadLemmas.{bad_behind, bad_of_both, first_is_bad}
 use Rattle.plan_text.proofs.ReadingLemmas.{rows_begun}
@@ -72,7 +73,7 @@ some_housed cores (Some task ∷ tasks) some =
 
 -- with some vCPUs read some text is still possible
 pub vcpus_begun : (names : List (List ℕ)) (tasks : List (Option Periodic)) (cores v : ℕ) → 0 < cores
-    → IsBegun (AreFromVcpu names tasks cores v) []
+    → BeginsText (AreFromVcpu names tasks cores v) []
 vcpus_begun names tasks cores v some =
     let rows = rows_begun names tasks 0 cores in
     let homes = some_homes (drop v tasks) in

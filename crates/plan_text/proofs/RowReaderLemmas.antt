@@ -5,19 +5,20 @@ use Rattle.std.proofs.lemmas.List.Elements.{All-nil}
 use Rattle.tab_core.specs.declared.periodic.Periodic.{Periodic}
 use Rattle.tab_words.specs.Lines.{lines_of}
 use Rattle.tab_words.specs.Words.{words_of}
+use Rattle.tab_words.specs.Texts.{Line, worded}
 use Rattle.table_form.specs.Tables.Homes.{are_housed}
 use Rattle.table_form.specs.declared.segment.Segment.{Segment}
 use Rattle.plan_text.specs.FirstBad.{IsFirstBadFor}
-use Rattle.plan_text.specs.Meaning.{AreFineRows, IsFineSegment, IsPlanText, IsSomePlan, IsTextOfRows, segment_words, worded}
-use Rattle.plan_text.specs.PlanLines.{Line, core_lines, core_words, end_words, head_words, is_admitted, vcpu_lines}
+use Rattle.plan_text.specs.Meaning.{AreFineRows, IsFineSegment, IsPlanText, IsSomePlan, IsTextOfRows, segment_words}
+use Rattle.plan_text.specs.PlanLines.{core_lines, core_words, end_words, head_words, is_admitted, vcpu_lines}
 use Rattle.plan_text.specs.RowReading.{HasRead, RowsLeft}
-use Rattle.plan_text.specs.Inside.Reading.{AreFromCore, AreFromVcpu, IsReadTo, Left}
+use Rattle.plan_text.specs.Inside.Reading.{AreFromCore, AreFromVcpu, IsReadTo, TextLeft}
 use Rattle.plan_text.proofs.ReadingHeadLemmas.{bad_in_text, whole_read}
 use Rattle.plan_text.proofs.ReadingLemmas.{all_snoc, core_lines_more}
 
 -- after the lines of the vCPUs no row is read
 pub front_read : (names own : List (List ℕ)) (tasks these those : List (Option Periodic)) (cores number : ℕ)
-    (bytes head : List ℕ) (rest : List (List ℕ)) (lines : List Line) (homes : List (Option ℕ)) (left : Left)
+    (bytes head : List ℕ) (rest : List (List ℕ)) (lines : List Line) (homes : List (Option ℕ)) (left : TextLeft)
     → own ≡ names → these ≡ tasks → those ≡ tasks → lines_of bytes ≡ head ∷ rest
     → words_of head ≡ head_words cores (count_by is_admitted those)
     → lines ≡ map words_of rest → number ≡ 2 → are_housed cores these homes ≡ true
@@ -47,7 +48,7 @@ front_read names own tasks these those cores number bytes head rest lines homes 
 
 -- with the lines of all cores and the end the text is whole
 pub text_behind_front : (names : List (List ℕ)) (cores : ℕ) (tasks : List (Option Periodic)) (bytes : List ℕ)
-    (homes : List (Option ℕ)) (rows : List (List Segment)) (left : Left)
+    (homes : List (Option ℕ)) (rows : List (List Segment)) (left : TextLeft)
     → IsReadTo names cores tasks bytes homes [] left
     → left.lines ≡ core_lines (segment_words names) 0 rows ++ end_words ∷ []
     → length rows ≡ cores → AreFineRows tasks rows
@@ -58,7 +59,7 @@ text_behind_front names cores tasks bytes homes rows left read written many fine
 
 -- a bad line of all cores' is the text's
 pub bad_behind_front : (names : List (List ℕ)) (cores : ℕ) (tasks : List (Option Periodic)) (bytes : List ℕ)
-    (homes : List (Option ℕ)) (left : Left) (bad : ℕ)
+    (homes : List (Option ℕ)) (left : TextLeft) (bad : ℕ)
     → IsReadTo names cores tasks bytes homes [] left
     → IsFirstBadFor (AreFromCore names tasks 0 cores) left.number left.lines bad
     → IsFirstBadFor (IsSomePlan names cores tasks) 1 (worded bytes) bad
@@ -70,7 +71,7 @@ bad_behind_front names cores tasks bytes homes left bad read is =
 
 -- a row after those that were read
 row_behind : (names : List (List ℕ)) (cores : ℕ) (tasks : List (Option Periodic)) (bytes : List ℕ)
-    (homes : List (Option ℕ)) (rows : List (List Segment)) (row : List Segment) (core : ℕ) (old new : Left)
+    (homes : List (Option ℕ)) (rows : List (List Segment)) (row : List Segment) (core : ℕ) (old new : TextLeft)
     → length rows ≡ core → core < cores → IsReadTo names cores tasks bytes homes rows old
     → old.lines ≡ core_words core ∷ (map (segment_words names) row ++ new.lines)
     → All (IsFineSegment tasks) row

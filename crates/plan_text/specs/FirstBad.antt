@@ -1,16 +1,16 @@
 -- The first bad line of a text, where it isn't one of these texts.
 use Rattle.std.specs.Prelude.{◌≡◌, ℕ, ◌+◌, List, [], ◌∷◌, ◌++◌, length}
-use Rattle.plan_text.specs.PlanLines.{Line}
+use Rattle.tab_words.specs.Texts.{Line}
 
 -- a text begins with these lines
-pub record IsBegun (Texts : List Line → Type 0) (front : List Line) : Type 0 where
+pub record BeginsText (Texts : List Line → Type 0) (front : List Line) : Type 0 where
   pub rest : List Line
   pub text : Texts (front ++ rest)
 
 -- after the prefix no text goes on so: none has the next line there, or the lines end and are none
 abbrev pub GoesWrong : (List Line → Type 0) → List Line → List Line → Type 0
 GoesWrong Texts front [] = Texts front → ⊥
-GoesWrong Texts front (line ∷ back) = IsBegun Texts (front ++ line ∷ []) → ⊥
+GoesWrong Texts front (line ∷ back) = BeginsText Texts (front ++ line ∷ []) → ⊥
 
 -- of lines that are numbered from `first` on, this one is the first with which no text begins, or
 -- it is one past the last where the lines stop early
@@ -18,6 +18,6 @@ pub record IsFirstBadFor (Texts : List Line → Type 0) (first : ℕ) (lines : L
   pub front : List Line
   pub back : List Line
   pub whole : lines ≡ front ++ back
-  pub begun : IsBegun Texts front
+  pub begun : BeginsText Texts front
   pub wrong : GoesWrong Texts front back
   pub number : bad ≡ first + length front

@@ -1,19 +1,14 @@
 -- What a plan text stands for: a home for each task, and rows of segments.
-use Rattle.std.specs.Prelude.{◌≡◌, ℕ, ◌<◌, ◌^◌, IsTrue, true, List, length, map, Option}
+use Rattle.std.specs.Prelude.{◌≡◌, ℕ, ◌<◌, ◌^◌, IsTrue, true, List, length, Option}
 use Rattle.std.specs.List.{All}
 use Rattle.std.specs.Option.{ForSome}
 use Rattle.tab_core.specs.declared.periodic.Periodic.{Periodic}
-use Rattle.tab_words.specs.Lines.{lines_of}
-use Rattle.tab_words.specs.Words.{words_of}
+use Rattle.tab_words.specs.Texts.{Line, worded}
 use Rattle.table_form.specs.declared.raw_tables.RawTables.{RawTables}
 use Rattle.table_form.specs.declared.segment.Segment.{Segment}
 use Rattle.table_form.specs.Tables.Homes.{are_housed}
 use Rattle.table_form.specs.Tables.Serves.{has_task}
-use Rattle.plan_text.specs.PlanLines.{Line, owner_words, plan_lines}
-
--- the lines of a text, each as its words
-abbrev pub worded : List ℕ → List Line
-worded bytes = map words_of (lines_of bytes)
+use Rattle.plan_text.specs.PlanLines.{owner_words, plan_lines}
 
 -- the line of a segment
 abbrev pub segment_words : List (List ℕ) → Segment → Line

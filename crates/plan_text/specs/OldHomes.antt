@@ -1,9 +1,9 @@
 -- The old homes of a host's vCPUs: those that an earlier plan's text gives to their names.
 use Rattle.std.specs.Prelude.{◌≡◌, ℕ, ◌<◌, List, [], ◌∷◌, Option, None, Some, bytes_eq, get_or, if◌then◌else◌, length, nat_lt}
 use Rattle.tab_core.specs.declared.TheConstants.{MAX_CORES}
+use Rattle.tab_words.specs.Texts.{Line}
 use Rattle.vcpu_names.specs.Names.{name_at}
 use Rattle.plan_text.specs.OldText.{IsOldText, NamedHome}
-use Rattle.plan_text.specs.PlanLines.{Line}
 
 -- a home, if it is a core's number
 abbrev pub core_of_home : ℕ → Option ℕ

@@ -1,7 +1,8 @@
 -- What a plan text says of homes by itself, where its host isn't known: its first line, the lines of
 -- vCPUs, and the form of the rest. The form is this project's own.
 use Rattle.std.specs.Prelude.{◌≡◌, ◌⊎◌, ℕ, ◌<◌, ◌^◌, List, [], ◌∷◌, codes, decimal}
-use Rattle.plan_text.specs.PlanLines.{Line, core_words, end_words, head_words}
+use Rattle.tab_words.specs.Texts.{Line}
+use Rattle.plan_text.specs.PlanLines.{core_words, end_words, head_words}
 
 -- a vCPU of the text: its name, and the home that its line gives
 pub record NamedHome : Type 0 where

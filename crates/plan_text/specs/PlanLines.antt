@@ -2,11 +2,8 @@
 -- between two words, and read with one or more.
 use Rattle.std.specs.Prelude.{ℕ, ◌+◌, Bool, true, false, List, [], ◌∷◌, ◌++◌, codes, count_by, decimal, length, map, Option, Some, None}
 use Rattle.tab_core.specs.declared.periodic.Periodic.{Periodic}
+use Rattle.tab_words.specs.Texts.{Line}
 use Rattle.vcpu_names.specs.Names.{owner_word}
-
--- a line, as its words
-abbrev pub Line : Type 0
-Line = List (List ℕ)
 
 -- the first line: how many cores and admitted vCPUs there are
 abbrev pub head_words : ℕ → ℕ → Line

@@ -1,9 +1,9 @@
 -- The text of a plan, which is that of its lines, with each core's maximal segments.
 use Rattle.std.specs.Prelude.{ℕ, List, map}
-use Rattle.tab_words.specs.Texts.{line_of, text_of}
+use Rattle.tab_words.specs.Texts.{Line, line_of, text_of}
 use Rattle.table_form.specs.Tables.Plans.{PlanView}
 use Rattle.table_form.specs.Tables.Segments.{SegmentView, segments_from}
-use Rattle.plan_text.specs.PlanLines.{Line, owner_words, plan_lines}
+use Rattle.plan_text.specs.PlanLines.{owner_words, plan_lines}
 
 -- the line of a maximal segment, as its words
 abbrev pub view_words : List (List ℕ) → SegmentView → Line

@@ -2,13 +2,13 @@
 use Rattle.std.specs.Prelude.{◌≡◌, ℕ, List, Option}
 use Rattle.tab_core.specs.declared.periodic.Periodic.{Periodic}
 use Rattle.table_form.specs.declared.segment.Segment.{Segment}
-use Rattle.plan_text.specs.Inside.Reading.{IsReadTo, Left}
+use Rattle.plan_text.specs.Inside.Reading.{IsReadTo, TextLeft}
 
 -- what a reader of rows has: the names of the vCPUs, their tasks, and the lines that are left
 pub record RowsLeft : Type 0 where
   pub names : List (List ℕ)
   pub tasks : List (Option Periodic)
-  pub left : Left
+  pub left : TextLeft
 
 -- of the text for these names, cores and tasks the reader has read all up to the end of these rows
 pub record HasRead (names : List (List ℕ)) (cores : ℕ) (tasks : List (Option Periodic)) (bytes : List ℕ)

@@ -2,7 +2,7 @@ ghost use Rattle.std.specs.Prelude.{◌≡◌, ◌+◌, ◌<◌, ◌^◌, [], �
 ghost use Rattle.tab_words.specs.Lines.{lines_of};
 ghost use Rattle.tab_words.specs.Pieces.{piece_text};
 ghost use Rattle.tab_words.specs.Words.{words_of};
-ghost use Rattle.plan_text.specs.Meaning.{worded};
+ghost use Rattle.tab_words.specs.Texts.{worded};
 ghost use Rattle.plan_text.specs.Inside.Reading.{IsOtherLine};
 ghost use Rattle.plan_text.specs.declared.read_fault.ReadPlan.{ReadPlan};
 
@@ -21,10 +21,10 @@ pub(crate) struct LinesLeft<'a> {
 
 impl<'a> Model for LinesLeft<'a> {
     ghost use Rattle.std.specs.Prelude.{◌+◌, ◌<◌, ◌^◌, length};
-    ghost use Rattle.plan_text.specs.Inside.Reading.{Left};
-    ghost use Rattle.plan_text.specs.Meaning.{worded};
+    ghost use Rattle.plan_text.specs.Inside.Reading.{TextLeft};
+    ghost use Rattle.tab_words.specs.Texts.{worded};
 
-    ghost Value = { Left };
+    ghost Value = { TextLeft };
 
     ghost view = { λ left. record { lines = worded left.bytes.now; number = left.number } };
 

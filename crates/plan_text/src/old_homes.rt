@@ -1,7 +1,7 @@
 ghost use Rattle.std.specs.Prelude.{◌≡◌, ◌<◌, ◌^◌, ℕ, IfOk, IsErrOf, Option, get_or, length};
+ghost use Rattle.tab_words.specs.Texts.{worded};
 ghost use Rattle.vcpu_names.specs.Names.{name_at, names_of};
 ghost use Rattle.plan_text.specs.FirstBad.{IsFirstBadFor};
-ghost use Rattle.plan_text.specs.Meaning.{worded};
 ghost use Rattle.plan_text.specs.Names.{AreHostNames};
 ghost use Rattle.plan_text.specs.OldHomes.{AreHomesNamed, AreOldHomes, core_of_home, home_behind};
 ghost use Rattle.plan_text.specs.OldText.{IsSomeOldText};

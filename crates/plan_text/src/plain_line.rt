@@ -2,8 +2,8 @@ ghost use Rattle.std.specs.Prelude.{◌≡◌, ◌≢◌, ◌++◌, ◌<◌, ◌
 ghost use Rattle.std.specs.Char.{digit_value};
 ghost use Rattle.std.specs.List.{All};
 ghost use Rattle.std.specs.Str.Parse.{AllDigits, digits_value};
-ghost use Rattle.plan_text.specs.Meaning.{worded};
 ghost use Rattle.tab_words.specs.Words.{words_of};
+ghost use Rattle.tab_words.specs.Texts.{worded};
 
 // A line of digits, one space and a word, which a line feed ends.
 #[derive(Clone, Copy)]

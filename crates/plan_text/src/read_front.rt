@@ -2,10 +2,11 @@ ghost use Rattle.std.specs.Prelude.{◌≡◌, ◌↔◌, ◌<◌, ◌≤◌, �
 ghost use Rattle.tab_core.specs.declared.TheConstants.{MAX_VCPUS};
 ghost use Rattle.plan_text.specs.FirstBad.{IsFirstBadFor};
 ghost use Rattle.plan_text.specs.Inside.Reading.{IsReadTo};
-ghost use Rattle.plan_text.specs.Meaning.{IsSomePlan, worded};
+ghost use Rattle.plan_text.specs.Meaning.{IsSomePlan};
 ghost use Rattle.plan_text.specs.PlanLines.{head_words, is_admitted};
 ghost use Rattle.plan_text.specs.declared.read_fault.ReadPlan.{ReadPlan};
 ghost use Rattle.tab_words.specs.Words.{words_of};
+ghost use Rattle.tab_words.specs.Texts.{worded};
 ghost use Rattle.vcpu_names.specs.Names.{names_of};
 
 use crate::line_words::has_words;

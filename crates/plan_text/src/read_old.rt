@@ -1,10 +1,9 @@
 ghost use Rattle.std.specs.Prelude.{◌≡◌, ◌↔◌, ◌∷◌, ◌+◌, ◌<◌, ◌^◌, IfOk, IsErrOf, IsTrue, List, MatchOption, OnOk, IfNone, IfSome, length, ℕ};
 ghost use Rattle.tab_words.specs.Words.{words_of};
+ghost use Rattle.tab_words.specs.Texts.{Line, worded};
 ghost use Rattle.plan_text.specs.FirstBad.{IsFirstBadFor};
-ghost use Rattle.plan_text.specs.Inside.OldReading.{AreSomeOldVcpus, BeginsWithNumber, IsRowLine, StartsOtherwise, IsSomeHomeLine};
-ghost use Rattle.plan_text.specs.Meaning.{worded};
+ghost use Rattle.plan_text.specs.Inside.OldReading.{AreSomeOldVcpus, BeginsWithKeyAndNumber, IsRowLine, StartsOtherwise, IsSomeHomeLine};
 ghost use Rattle.plan_text.specs.OldText.{AreOldRows, AreOldVcpus, IsCoreLine, IsHomeLine, IsOldHead, IsOldText, IsSegmentLine, IsSomeOldText, NamedHome};
-ghost use Rattle.plan_text.specs.PlanLines.{Line};
 ghost use Rattle.plan_text.specs.declared.read_fault.ReadPlan.{ReadPlan};
 
 use crate::line_words::words_behind;
@@ -201,8 +200,8 @@ fn is_segment_line(line: &[u8]) -> bool
 
 // The number after this word, where the words that are left begin with the two.
 fn take_number(words: &mut Words<'_>, key: &[u8]) -> Option<u64>
-    ensures some { IfSome result (λ n. BeginsWithNumber words.old key.now n words.new) }
-    ensures none { IfNone result ((n : ℕ) (rest : Line) → BeginsWithNumber words.old key.now n rest → ⊥) }
+    ensures some { IfSome result (λ n. BeginsWithKeyAndNumber words.old key.now n words.new) }
+    ensures none { IfNone result ((n : ℕ) (rest : Line) → BeginsWithKeyAndNumber words.old key.now n rest → ⊥) }
 {
     let (Some(word), Some(number)) = (words.next(), words.next()) else {
         return None;

@@ -1,9 +1,10 @@
 ghost use Rattle.std.specs.Prelude.{◌≡◌, ◌++◌, ◌<◌, ◌^◌, [], ◌∷◌, IfOk, IsErrOf, List, OnOk, Option, length, ℕ};
 ghost use Rattle.std.specs.List.{All};
 ghost use Rattle.tab_core.specs.declared.periodic.Periodic.{Periodic};
+ghost use Rattle.tab_words.specs.Texts.{worded};
 ghost use Rattle.table_form.specs.declared.segment.Segment.{Segment};
 ghost use Rattle.plan_text.specs.FirstBad.{IsFirstBadFor};
-ghost use Rattle.plan_text.specs.Meaning.{IsFineSegment, IsSomePlan, IsTextOfRows, worded};
+ghost use Rattle.plan_text.specs.Meaning.{IsFineSegment, IsSomePlan, IsTextOfRows};
 ghost use Rattle.plan_text.specs.RowReading.{HasRead};
 ghost use Rattle.plan_text.specs.declared.read_fault.ReadPlan.{ReadPlan};
 ghost use Rattle.vcpu_names.specs.Names.{names_of};

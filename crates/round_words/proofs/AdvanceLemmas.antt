@@ -11,7 +11,7 @@ use Rattle.tab_core.specs.declared.entry.Entry.{Entry}
 use Rattle.tab_core.specs.declared.stint.Stint.{Stint}
 use Rattle.round_words.specs.declared.view.Part.{Part}
 use Rattle.round_words.specs.declared.view.View.{View}
-use Rattle.round_words.specs.Views.{part, with_part, heard_of, runs, IsStintAfter}
+use Rattle.round_words.specs.Views.{part, with_part, heard_of, with_stint, IsStintAfter}
 use Rattle.round_words.specs.Rule.{FloorsUpTo, Board, BoardInvariant, CoversEarlier, EntryFits, CoreFits, HeardFits}
 use Rattle.round_words.specs.Hearing.{HasHeardTo}
 use Rattle.round_words.specs.Shown.{HoldsCore}
@@ -74,7 +74,7 @@ timeline_stint p end ran s next later within t =
 -- the part of the core that ran
 advanced : (g : Board) (c end : ℕ) (ran : Option ℕ) (p : Part) (s : Stint) → CoreFits g c p → BoardInvariant g
     → c < g.cores → IsStintAfter p end ran s → p.clock < end → end ≤ p.clock / ROUND * ROUND + ROUND
-    → CoreFits (with_clock g c end) c (runs p s)
+    → CoreFits (with_clock g c end) c (with_stint p s)
 advanced g c end ran p s f sound core next later within =
     let n : ℕ = length g.floors in
     let k : ℕ = p.clock / ROUND in
@@ -85,7 +85,7 @@ advanced g c end ran p s f sound core next later within =
       clock = next.end ∙ sym (put_here g.clocks c c end refl);
       own = record {
         timeline = timeline_stint p end ran s next later within f.own.timeline;
-        sights = All-nil (CoversEarlier (runs p s));
+        sights = All-nil (CoversEarlier (with_stint p s));
       };
       floors = record {
         counts = record {
@@ -155,7 +155,7 @@ advance_keeps id c end ran v s may next fit live words views ruled at small =
     let g = r.board in
     let m = mine words views id c v live r at has in
     let p : Part = part v c in
-    let q : Part = runs p s in
+    let q : Part = with_stint p s in
     let f = m.core may.core.0 in
     let cl : p.clock ≡ g.clocks c = f.1.clock in
     let up : g.clocks c ≤ end = omega arith in

@@ -15,7 +15,7 @@ use Rattle.tab_core.specs.declared.entry.Entry.{Entry}
 use Rattle.round_words.specs.declared.numbers.Numbers.{Numbers}
 use Rattle.round_words.specs.declared.view.Part.{Part}
 use Rattle.round_words.specs.declared.view.View.{View}
-use Rattle.round_words.specs.Views.{controller, holds, part, with_part, last_of, enters, entry}
+use Rattle.round_words.specs.Views.{controller, holds, part, with_part, last_of, with_entry, entry}
 use Rattle.round_words.specs.Rule.{FloorsUpTo, CoversEarlier, EntryFits, FitsFloors, IsCorePart, decision_word, Board, BoardInvariant, CoreFits, HeardFits, IsRunning, KeepsRule}
 use Rattle.round_words.specs.Inside.Claims.{IsExpected, DecideClaim, StepKeepsRule}
 use Rattle.round_words.specs.Inside.Numbers.{KeepsUsed, NumbersAgree}
@@ -86,10 +86,10 @@ timeline_entry k p e at long is t =
 
 -- the sights cover what was seen and used before an entry of the clock's round
 own_entry : (k : ℕ) (p : Part) (e : Entry) → p.clock ≡ k * ROUND → length p.entries ≡ k → e.round ≡ k
-    → IsCorePart p → IsCorePart (enters p e)
+    → IsCorePart p → IsCorePart (with_entry p e)
 own_entry k p e at long is own = record {
   timeline = timeline_entry k p e at long is own.timeline;
-  sights = All-weaker (CoversEarlier p) (CoversEarlier (enters p e))
+  sights = All-weaker (CoversEarlier p) (CoversEarlier (with_entry p e))
       (λ j h. record {
         stints = h.stints;
         entries = All-push (λ (x : Entry). x.round * ROUND < p.clock
@@ -102,7 +102,7 @@ own_entry k p e at long is own = record {
 -- the floors that an entry saw are no later than its round's start
 floors_entry : (g : Board) (c k : ℕ) (p : Part) (e : Entry) → CoreFits g c p → BoardInvariant g → c < g.cores
     → p.clock ≡ k * ROUND → e.round ≡ k → e.seen ≤ length g.floors → e.used ≤ length g.floors
-    → FitsFloors g.floors (enters p e)
+    → FitsFloors g.floors (with_entry p e)
 floors_entry g c k p e f sound core at is seen used =
     let n : ℕ = length g.floors in record {
       counts = record {
@@ -195,7 +195,7 @@ won_keeps : (words : List ℕ) (views : List View) (id c k d : ℕ) (v : View) (
     → CoreFits r.board c (part v c) → (part v c).clock ≡ k * ROUND → length (part v c).entries ≡ k
     → r.board.decided k ≡ None
     → KeepsRule (set words (33 + k % 4) (decision_word k d))
-    (set views id (with_part v c (enters (part v c) (entry k d d true))))
+    (set views id (with_part v c (with_entry (part v c) (entry k d d true))))
 won_keeps words views id c k d v r at has core le heard floors f clock long none =
     let g = r.board in
     let p : Part = part v c in
@@ -207,7 +207,7 @@ won_keeps words views id c k d v r at has core le heard floors f clock long none
     → (u : ℕ) × (g.decided j ≡ Some u) = λ j h. own_count g c p j f (omega arith) in
     let cnt = r.shows.count in
     let lim = r.sound.limits in
-    writes words views id c w x v (enters p e) r g' (refl, refl, refl) at has
+    writes words views id c w x v (with_entry p e) r g' (refl, refl, refl) at has
     (record {
       limits = r.sound.limits;
       posted = r.sound.posted;
@@ -255,7 +255,7 @@ won_keeps words views id c k d v r at has core le heard floors f clock long none
           absurd (some_none o.0 (sym o.1 ∙ eq)))
           ∙ r.shows.none m h eq);
     })
-    (parts_put g' r.parts c (enters p e)
+    (parts_put g' r.parts c (with_entry p e)
     (λ b h away. counted_else g k d c b (r.parts b) none away (r.fits.cores b h))
     (λ b. let h = r.fits.heard b in record { lists = h.lists; rises = h.rises; low = h.low })
     (λ away. r.fits.floors)
@@ -292,13 +292,13 @@ lost_keeps : (words : List ℕ) (views : List View) (id c k d u : ℕ) (v : View
     → HeardFits r.board (part v c) → (c ≡ controller → (part v c).floors ≡ r.board.floors)
     → CoreFits r.board c (part v c) → (part v c).clock ≡ k * ROUND → length (part v c).entries ≡ k
     → r.board.decided k ≡ Some u
-    → KeepsRule words (set views id (with_part v c (enters (part v c) (entry k u d false))))
+    → KeepsRule words (set views id (with_part v c (with_entry (part v c) (entry k u d false))))
 lost_keeps words views id c k d u v r at has core le heard floors f clock long is =
     let g = r.board in
     let p : Part = part v c in
     let e : Entry = entry k u d false in
-    subst (λ (ws : List ℕ). KeepsRule ws (set views id (with_part v c (enters p e)))) (set-get_or words 0 0)
-    (loads words views id c 0 v (enters p e) r at has
+    subst (λ (ws : List ℕ). KeepsRule ws (set views id (with_part v c (with_entry p e)))) (set-get_or words 0 0)
+    (loads words views id c 0 v (with_entry p e) r at has
     (λ h. record {
       clock = f.clock;
       own = own_entry k p e clock long refl f.own;
@@ -377,9 +377,9 @@ decide_keeps id c k d old x v on live has core clock new d_is x_is exp words vie
     let s = m.settings in
     ⊎_elim
     (λ none. let z : n ≡ old = finds r c k old p f long exp none in (
-      with_part v c (enters p (entry k d d true)),
+      with_part v c (with_entry p (entry k d d true)),
       subst (λ (y : ℕ). KeepsRule (set words (33 + k % 4) y)
-          (set views id (with_part v c (enters p (entry k d d true)))))
+          (set views id (with_part v c (with_entry p (entry k d d true)))))
           (sym (hit n old x z ∙ x_is))
           (won_keeps words views id c k d v r at has in' le m.heard m.floors f clock long none),
       inl (z, (let b = r.sound.posted in omega arith), refl),
@@ -390,8 +390,8 @@ decide_keeps id c k d old x v on live has core clock new d_is x_is exp words vie
     let away : n ≢ old = λ e. omega arith in
     let w = (r.sound.made k u o.1).1 in
     let b = r.sound.posted in (
-      with_part v c (enters p (entry k u d false)),
-      subst (λ (ws : List ℕ). KeepsRule ws (set views id (with_part v c (enters p (entry k u d false)))))
+      with_part v c (with_entry p (entry k u d false)),
+      subst (λ (ws : List ℕ). KeepsRule ws (set views id (with_part v c (with_entry p (entry k u d false)))))
           (sym (ap (set words (33 + k % 4)) (miss n old x away) ∙ set-get_or words (33 + k % 4) 0))
           (lost_keeps words views id c k d u v r at has in' le m.heard m.floors f clock long o.1),
       inr (u, away, z, omega arith, refl),

@@ -4,7 +4,7 @@ use Rattle.std.specs.Prelude.{slice_get}
 use Rattle.tab_core.specs.declared.entry.Entry.{Entry}
 use Rattle.round_words.specs.declared.view.Part.{Part}
 use Rattle.round_words.specs.declared.view.View.{View}
-use Rattle.round_words.specs.Views.{controller, opening, holds, part, only, without}
+use Rattle.round_words.specs.Views.{controller, unstarted, holds, part, only, without}
 use Rattle.round_words.specs.Rule.{IsCorePart}
 use Rattle.round_words.specs.Shown.{HoldsCore, HasEntry, KeepsFloors, ViewInvariant}
 use Rattle.round_words.proofs.ViewsLemmas.{of_only, of_without}
@@ -71,9 +71,9 @@ without_shown m v = within_shown (without m v) v
     (record { lag = refl; cores = refl; parts = λ a h. let o = of_without m v a h in (o.1, o.2) })
 
 -- a view without parts
-pub opening_shown : ViewInvariant opening
+pub opening_shown : ViewInvariant unstarted
 opening_shown =
-    let no : (c : ℕ) → holds opening c ≡ true → ⊥ = λ c h. true≢false (sym h) in record {
+    let no : (c : ℕ) → holds unstarted c ≡ true → ⊥ = λ c h. true≢false (sym h) in record {
       lists = λ a h. absurd (no a h);
       cores = λ c h. absurd (no c h.1);
       one_count = λ c d r e f hc. absurd (no c hc.1);

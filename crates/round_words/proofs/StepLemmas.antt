@@ -11,15 +11,15 @@ use Rattle.round_words.specs.declared.spacing.TheConstants.{PLACES}
 use Rattle.round_words.specs.Inside.Claims.{HasLag, StepKeepsRule}
 use Rattle.round_words.specs.Inside.Spacing.{KeepsSpaced, words_at}
 use Rattle.round_words.specs.Shown.{ViewInvariant}
-use Rattle.round_words.specs.Views.{opening}
+use Rattle.round_words.specs.Views.{unstarted}
 use Rattle.round_words.proofs.PlaceLemmas.{below_length}
 use Rattle.round_words.proofs.LoadLemmas.{shown}
 use Rattle.round_words.proofs.ShownLemmas.{opening_shown}
 use Rattle.round_words.proofs.SpacingLemmas.{word_is, word_written}
 
 -- before the start there is one view
-first_is : (id : ℕ) (w : View) → get_elem? (opening ∷ []) id ≡ some w → opening ≡ w
-first_is zero w e = some-injective opening w e
+first_is : (id : ℕ) (w : View) → get_elem? (unstarted ∷ []) id ≡ some w → unstarted ≡ w
+first_is zero w e = some-injective unstarted w e
 first_is (suc id) w e = absurd (some-ne-none w (sym e))
 
 -- whatever the board is, a view shows what the rule says

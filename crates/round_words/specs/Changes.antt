@@ -4,7 +4,7 @@ use Rattle.std.specs.Prelude.{◌≡◌, ◌≢◌, ◌/◌, ℕ, Bool, true, Op
 use Rattle.tab_core.specs.declared.TheConstants.{ROUND}
 use Rattle.tab_core.specs.declared.stint.Stint.{Stint}
 use Rattle.round_words.specs.declared.view.View.{View}
-use Rattle.round_words.specs.Views.{controller, holds, part, with_part, posts, sees, hears, enters, runs, entry, last_of, IsStintAfter}
+use Rattle.round_words.specs.Views.{controller, holds, part, with_part, posts, sees, hears, with_entry, with_stint, entry, last_of, IsStintAfter}
 
 -- `post`: the controller's floors have this one more
 abbrev pub PostsFloor : View → View → ℕ → Type 0
@@ -20,15 +20,15 @@ HearsClock v w a c clock = w ≡ with_part v a (hears (part v a) c clock)
 
 -- `decide`: core c has an entry more, of its clock's round, with its last sight and this used count. If the
 -- entry is won, they are the same
-abbrev pub EntersRound : View → View → ℕ → ℕ → Type 0
-EntersRound v w c used = let p = part v c in (won : Bool)
-    × (w ≡ with_part v c (enters p (entry (p.clock / ROUND) used (last_of p.sights) won)))
+abbrev pub AddsEntry : View → View → ℕ → ℕ → Type 0
+AddsEntry v w c used = let p = part v c in (won : Bool)
+    × (w ≡ with_part v c (with_entry p (entry (p.clock / ROUND) used (last_of p.sights) won)))
     × (won ≡ true → used ≡ last_of p.sights)
 
 -- `advance`: core c has a stint more, from its clock to the end; that is its clock, and its sights are gone
 abbrev pub AppendsStint : View → View → ℕ → ℕ → Option ℕ → Type 0
 AppendsStint v w c end ran = (s : Stint) × IsStintAfter (part v c) end ran s
-    × (w ≡ with_part v c (runs (part v c) s))
+    × (w ≡ with_part v c (with_stint (part v c) s))
 
 -- the views have the same settings and hold the same actors, and the same parts but that of actor a
 pub record ChangesOnly (v w : View) (a : ℕ) : Type 0 where

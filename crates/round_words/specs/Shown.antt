@@ -36,7 +36,7 @@ CoresKeepFloors v = holds v controller ≡ true → (c : ℕ) → HoldsCore v c
     → KeepsFloors (part v controller).floors (part v c)
 
 -- core d and no other won round r, with the count that it had seen
-pub record IsWonBy (v : View) (r count d : ℕ) : Type 0 where
+pub record IsSoleWinner (v : View) (r count d : ℕ) : Type 0 where
   pub core : d < v.cores
   pub entry : Entry
   pub entered : HasEntry v d r entry
@@ -45,9 +45,9 @@ pub record IsWonBy (v : View) (r count d : ℕ) : Type 0 where
   pub only : (other : ℕ) (e : Entry) → HoldsCore v other → HasEntry v other r e → e.won ≡ true → other ≡ d
 
 -- a view that holds every core shows who won a round
-abbrev pub HasOneWinner : View → Type 0
-HasOneWinner v = ((c : ℕ) → c < v.cores → holds v c ≡ true) → (c r : ℕ) (e : Entry) → HoldsCore v c
-    → HasEntry v c r e → (d : ℕ) × IsWonBy v r e.used d
+abbrev pub ShowsOneWinner : View → Type 0
+ShowsOneWinner v = ((c : ℕ) → c < v.cores → holds v c ≡ true) → (c r : ℕ) (e : Entry) → HoldsCore v c
+    → HasEntry v c r e → (d : ℕ) × IsSoleWinner v r e.used d
 
 -- what every view shows
 pub record ViewInvariant (v : View) : Type 0 where
@@ -56,7 +56,7 @@ pub record ViewInvariant (v : View) : Type 0 where
   pub one_count : HasOneCount v
   pub near : ClocksWithinLag v
   pub floors : CoresKeepFloors v
-  pub one_winner : HasOneWinner v
+  pub one_winner : ShowsOneWinner v
 
 -- the count that a core sees is at most the number of events, and no less than any count of its part.
 -- Where the view holds the controller, it is the number of floors

@@ -5,7 +5,7 @@ ghost use Rattle.tab_core.specs.declared.entry.Entry.{Entry};
 ghost use Rattle.tab_core.specs.declared.stint.Stint.{Stint};
 ghost use Rattle.round_words.specs.Inside.Known.{AreKnown};
 ghost use Rattle.round_words.specs.Inside.Numbers.{NumbersAgree};
-ghost use Rattle.round_words.specs.Views.{both, controller, enters, hears, holds, just_started, names, only, part, posts, runs, sees, with_part, without};
+ghost use Rattle.round_words.specs.Views.{both, controller, hears, holds, just_started, names, only, part, posts, sees, with_entry, with_part, with_stint, without};
 ghost use Rattle.round_words.specs.Shown.{IsHeardClock};
 ghost use Rattle.round_words.specs.declared.view.View.{View};
 
@@ -223,7 +223,7 @@ impl Numbers {
         requires core { core < 32 }
         ensures { (v : View) (e : Entry) → holds v core ≡ true → length (part v core).entries ≡ round
             → e.used ≡ used → NumbersAgree self.old v
-            → NumbersAgree self.new (with_part v core (enters (part v core) e)) }
+            → NumbersAgree self.new (with_part v core (with_entry (part v core) e)) }
     {
         self.useds[4 * core + round as usize % 4] = used;
     }
@@ -232,7 +232,7 @@ impl Numbers {
     pub(crate) fn note_stint(&mut self, core: usize, end: u32)
         requires core { core < 32 }
         ensures { (v : View) (s : Stint) → holds v core ≡ true → s.end ≡ end → NumbersAgree self.old v
-            → NumbersAgree self.new (with_part v core (runs (part v core) s)) }
+            → NumbersAgree self.new (with_part v core (with_stint (part v core) s)) }
     {
         self.clocks[core] = end;
         lower_to(&mut self.floor, end);

@@ -9,9 +9,9 @@ use Rattle.std.proofs.lemmas.Slice.Eq.{bytes_eq-Decides}
 use Rattle.tab_words.specs.Lines.{lines_of, without_feed}
 use Rattle.tab_words.specs.Sections.{is_separator, sections_of}
 use Rattle.tab_words.proofs.LineLemmas.{raw_lines_of-line, without_feed-feed}
-use Rattle.tab_words.specs.Inside.Fronts.{behind}
+use Rattle.tab_words.specs.Inside.Fronts.{sections_after}
 use Rattle.tab_words.proofs.SectionLemmas.{behind-behind, sections_of-behind, sections_of-nil, sections_of-row, sections_of-separator}
-use Rattle.section_join.specs.Mended.{ends_in_return, first_cut, is_cut, joined, mended, mended_line, without_return}
+use Rattle.section_join.specs.Mended.{ends_in_return, first_cut, is_cut, joined_text, mended, mended_line, without_return}
 use Rattle.section_join.proofs.RowLemmas.{EachLacks, Lacks, lines_lack}
 
 -- a mended line has no line feed but at its end
@@ -60,7 +60,7 @@ first_none line lines none = split (is_cut line) (first_cut lines) none
 
 -- mended lines are before the first section of what follows
 lines_extend : (lines : List (List ℕ)) (rest : List ℕ) → EachLacks lines → first_cut lines ≡ None
-    → sections_of (flat_map mended_line lines ++ rest) ≡ behind (flat_map mended_line lines) (sections_of rest)
+    → sections_of (flat_map mended_line lines ++ rest) ≡ sections_after (flat_map mended_line lines) (sections_of rest)
 lines_extend [] rest lack none = sections_of-behind rest
 lines_extend (line ∷ lines) rest lack none =
     let text = without_return line in
@@ -71,7 +71,7 @@ lines_extend (line ∷ lines) rest lack none =
     let rows = raw_lines_of-line text (back ++ rest) (still_lacks line lack.0) in
     ap sections_of whole
     ∙ sections_of-row (text ++ 10 ∷ (back ++ rest)) (text ++ 10 ∷ []) (back ++ rest) rows (no_separator text parts.0)
-    ∙ ap (behind (text ++ 10 ∷ [])) (lines_extend lines rest lack.1 parts.1)
+    ∙ ap (sections_after (text ++ 10 ∷ [])) (lines_extend lines rest lack.1 parts.1)
     ∙ behind-behind (text ++ 10 ∷ []) back (sections_of rest)
 
 -- a mended text alone is one section
@@ -82,7 +82,7 @@ one_section text none =
     let front = flat_map mended_line lines in
     ap sections_of (sym (append-nil front))
     ∙ lines_extend lines [] (lines_lack text) none
-    ∙ ap (behind front) sections_of-nil
+    ∙ ap (sections_after front) sections_of-nil
     ∙ ap (λ first. first ∷ []) (append-nil front)
 
 -- with a separator and more after it, it is the first section
@@ -97,15 +97,15 @@ first_section text rest none =
     (All-cons (λ b. b ≢ 10) 37 [] (λ e. absurd (omega (arith, e))) (λ k d low is. absurd (omega (arith, low)))) in
     let rows = raw_lines_of-line (37 ∷ 37 ∷ []) rest percent in
     lines_extend lines (37 ∷ 37 ∷ 10 ∷ rest) (lines_lack text) none
-    ∙ ap (behind front) (sections_of-separator (37 ∷ 37 ∷ 10 ∷ rest) (37 ∷ 37 ∷ 10 ∷ []) rest rows refl)
+    ∙ ap (sections_after front) (sections_of-separator (37 ∷ 37 ∷ 10 ∷ rest) (37 ∷ 37 ∷ 10 ∷ []) rest rows refl)
     ∙ ap (λ first. first ∷ sections_of rest) (append-nil front)
 
 -- the law
 pub sections_of-joined : (text : List ℕ) (texts : List (List ℕ))
     → All (λ t. first_cut (lines_of t) ≡ None) (text ∷ texts)
-    → sections_of (joined (text ∷ texts)) ≡ map mended (text ∷ texts)
+    → sections_of (joined_text (text ∷ texts)) ≡ map mended (text ∷ texts)
 sections_of-joined text [] none = one_section text (none 0 [] (omega arith))
 sections_of-joined text (next ∷ texts) none =
-    first_section text (joined (next ∷ texts)) (none 0 [] (omega arith))
+    first_section text (joined_text (next ∷ texts)) (none 0 [] (omega arith))
     ∙ ap (λ back. mended text ∷ back)
     (sections_of-joined next texts (λ k d low. none (suc k) d (omega (arith, low))))

@@ -39,7 +39,7 @@ first_cut [] = None
 first_cut (line ∷ lines) = if is_cut line then Some 1 else option_map suc (first_cut lines)
 
 -- the texts with mended ends, and a line `%%` between each two
-abbrev pub joined : List (List ℕ) → List ℕ
-joined [] = []
-joined (text ∷ []) = mended text
-joined (text ∷ next ∷ texts) = mended text ++ (codes "%%\n" ++ joined (next ∷ texts))
+abbrev pub joined_text : List (List ℕ) → List ℕ
+joined_text [] = []
+joined_text (text ∷ []) = mended text
+joined_text (text ∷ next ∷ texts) = mended text ++ (codes "%%\n" ++ joined_text (next ∷ texts))

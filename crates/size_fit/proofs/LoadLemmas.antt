@@ -10,11 +10,11 @@ use Rattle.table_form.specs.declared.segment.Segment.{Segment}
 use Rattle.table_form.specs.Tables.Rows.{Row, cells_from, RisesTo}
 use Rattle.table_form.proofs.RowLemmas.{rises_parts, cells-cons, cells-nil, length-cells_from}
 use Rattle.size_fit.specs.Inside.Owned.{owned_ticks}
-use Rattle.size_fit.specs.Loads.{load_of, loads_of}
+use Rattle.size_fit.specs.Loads.{load_of_row, loads_of}
 
 -- what the segments from a tick on add
 abbrev pub rest_of : ℕ → List Segment → ℕ
-rest_of from ss = load_of (cells_from from ss)
+rest_of from ss = load_of_row (cells_from from ss)
 
 -- this much is counted of the segments before this one, and the others rise from here
 pub record Counts (ss : List Segment) (place from load : ℕ) : Type 0 where
@@ -22,7 +22,7 @@ pub record Counts (ss : List Segment) (place from load : ℕ) : Type 0 where
   pub low : load ≤ from
   pub counted : load + rest_of from (drop place ss) ≡ rest_of 0 ss
 
-cells_add : (n : ℕ) (o : Option ℕ) → load_of (replicate n o) ≡ owned_ticks n o
+cells_add : (n : ℕ) (o : Option ℕ) → load_of_row (replicate n o) ≡ owned_ticks n o
 cells_add n None = sum_by-replicate _ n None ∙ omega arith
 cells_add n (Some v) = sum_by-replicate _ n (Some v) ∙ omega arith
 
@@ -30,7 +30,7 @@ cells_add n (Some v) = sum_by-replicate _ n (Some v) ∙ omega arith
 rest_next : (from : ℕ) (s : Segment) (ss : List Segment)
     → rest_of from (s ∷ ss) ≡ owned_ticks (s.end - from) s.owner + rest_of s.end ss
 rest_next from s ss =
-    ap load_of (cells-cons from s ss)
+    ap load_of_row (cells-cons from s ss)
     ∙ (sum_by-append _ (replicate (s.end - from) s.owner) (cells_from s.end ss)
     ∙ ap (λ n. n + rest_of s.end ss) (cells_add (s.end - from) s.owner))
 
@@ -74,10 +74,10 @@ next ss place from load s counts small at =
 
 -- after the last one all is counted
 pub counts_all : (ss : List Segment) (place from load : ℕ) → length ss ≤ place → Counts ss place from load
-    → load ≡ load_of (cells_from 0 ss)
+    → load ≡ load_of_row (cells_from 0 ss)
 counts_all ss place from load past counts =
     let none : drop place ss ≡ [] = drop_past ss place past in
-    let same : rest_of from (drop place ss) ≡ 0 = ap (rest_of from) none ∙ ap load_of (cells-nil from) in
+    let same : rest_of from (drop place ss) ≡ 0 = ap (rest_of from) none ∙ ap load_of_row (cells-nil from) in
     omega (arith, counts.counted, same)
   where
     drop_past : (xs : List Segment) (n : ℕ) → length xs ≤ n → drop n xs ≡ []
@@ -85,10 +85,10 @@ counts_all ss place from load past counts =
 
 -- the load of one more core
 pub loads_next : (rows : List Row) (i : ℕ) (loads : List ℕ) (row : Row) → i < length rows → row ≡ get_or rows i row
-    → loads ≡ loads_of (take i rows) → loads ++ load_of row ∷ [] ≡ loads_of (take (i + 1) rows)
+    → loads ≡ loads_of (take i rows) → loads ++ load_of_row row ∷ [] ≡ loads_of (take (i + 1) rows)
 loads_next rows i loads row low at before =
     let count : i + 1 ≡ suc i = omega arith in
     let more : take (suc i) rows ≡ take i rows ++ row ∷ [] =
     take-suc rows i row low ∙ ap (λ r. take i rows ++ r ∷ []) (sym at) in
-    rw count (ap (λ xs. xs ++ load_of row ∷ []) before
-    ∙ (sym (map-append load_of (take i rows) (row ∷ [])) ∙ ap loads_of (sym more)))
+    rw count (ap (λ xs. xs ++ load_of_row row ∷ []) before
+    ∙ (sym (map-append load_of_row (take i rows) (row ∷ [])) ∙ ap loads_of (sym more)))

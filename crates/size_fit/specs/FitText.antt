@@ -5,7 +5,7 @@ use Rattle.tab_core.specs.declared.TheConstants.{ROUND, WHOLE_PPM}
 use Rattle.tab_core.specs.declared.host.Host.{Host}
 use Rattle.tab_core.specs.declared.vcpu.Vcpu.{Vcpu}
 use Rattle.tab_words.specs.Texts.{texts_below}
-use Rattle.table_cells.specs.Cells.{count_cell, percent_cell}
+use Rattle.view_cells.specs.Cells.{count_cell, percent_cell}
 use Rattle.vcpu_names.specs.Names.{name_at, names_of}
 use Rattle.plan_make.specs.Refusal.{no_period_line, no_room_line}
 use Rattle.plan_make.specs.declared.fault.PlanFault.{PlanFault}
@@ -21,8 +21,8 @@ head_line vcpus cores = codes "fits: vCPUs " ++ (decimal vcpus ++ (codes ", core
 -- ---- loads
 
 -- the row that names the columns of loads
-abbrev pub load_head : List ℕ
-load_head = codes "\ncore    load %  headroom %\n"
+abbrev pub fit_load_head : List ℕ
+fit_load_head = codes "\ncore    load %  headroom %\n"
 
 -- a part of a whole, in parts per million, rounded down
 abbrev pub ppm_of : ℕ → ℕ → ℕ
@@ -34,16 +34,16 @@ load_cells load ticks = percent_cell 5 (ppm_of load ticks)
     ++ (percent_cell 7 (ppm_of (ticks - load) ticks) ++ codes "\n")
 
 -- the row of a core: its load, and what is left of a round
-abbrev pub core_row : List ℕ → ℕ → List ℕ
-core_row loads core = count_cell 4 core ++ load_cells (slice_index loads core) ROUND
+abbrev pub fit_core_row : List ℕ → ℕ → List ℕ
+fit_core_row loads core = count_cell 4 core ++ load_cells (slice_index loads core) ROUND
 
 -- the load of all cores together
-abbrev pub total_of : List ℕ → ℕ
-total_of loads = sum_by (λ load. load) loads
+abbrev pub total_load : List ℕ → ℕ
+total_load loads = sum_by (λ load. load) loads
 
 -- the row of all cores together: their load, and what is left of their rounds
-abbrev pub host_row : List ℕ → List ℕ
-host_row loads = codes "host" ++ load_cells (total_of loads) (length loads * ROUND)
+abbrev pub fit_host_row : List ℕ → List ℕ
+fit_host_row loads = codes "host" ++ load_cells (total_load loads) (length loads * ROUND)
 
 -- ---- sizes
 
@@ -60,7 +60,7 @@ size_row room = count_cell 4 room.size.machines
 
 -- the table of loads: a row for each core, by number, and one for all together
 abbrev pub loads_text : List ℕ → List ℕ
-loads_text loads = load_head ++ (texts_below (core_row loads) (length loads) ++ host_row loads)
+loads_text loads = fit_load_head ++ (texts_below (fit_core_row loads) (length loads) ++ fit_host_row loads)
 
 -- the table of sizes: how many VMs of each the host has, and how many more of it alone would fit
 abbrev pub rooms_text : List Room → List ℕ

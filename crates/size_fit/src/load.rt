@@ -1,6 +1,6 @@
 ghost use Rattle.std.specs.Prelude.{◌≡◌, ◌-◌, ◌≤◌, IfOk};
 ghost use Rattle.size_fit.specs.Inside.Owned.{owned_ticks};
-ghost use Rattle.size_fit.specs.Loads.{load_of, loads_of};
+ghost use Rattle.size_fit.specs.Loads.{load_of_row, loads_of};
 
 use std::alloc::Global;
 use tab_core::NoMemory;
@@ -19,7 +19,7 @@ pub(crate) fn loads_of(alloc: Global, rows: &[CoreTable]) -> Result<Vec<u32>, No
 
 // The ticks of a round in which the core has an owner.
 fn load_of(row: &CoreTable) -> u32
-    ensures { result ≡ load_of row.now }
+    ensures { result ≡ load_of_row row.now }
 {
     let parts = row.segments();
     let mut load = 0;

@@ -2,16 +2,16 @@ ghost use Rattle.std.specs.Prelude.{◌≡◌, ◌*◌, ◌<◌, ◌≤◌, ◌^
 ghost use Rattle.tab_core.specs.declared.TheConstants.{MAX_CORES, ROUND};
 ghost use Rattle.tab_io.specs.Sinks.{Writes};
 ghost use Rattle.tab_words.specs.Texts.{texts_below};
-ghost use Rattle.table_cells.specs.CellTexts.{cell_text};
-ghost use Rattle.size_fit.specs.FitText.{core_row, fit_text, head_line, host_row, load_cells, loads_text, ppm_of, refusal_line, rooms_text, size_row, total_of};
+ghost use Rattle.view_cells.specs.CellTexts.{cell_text};
+ghost use Rattle.size_fit.specs.FitText.{fit_core_row, fit_host_row, fit_text, head_line, load_cells, loads_text, ppm_of, refusal_line, rooms_text, size_row, total_load};
 
 use crate::fit::{Fit, Room};
 use plan_make::{PlanFault, put_no_period, put_no_room};
 use tab_core::{ROUND, Vcpu, WHOLE_PPM};
 use tab_io::{Sink, WriteFault, write_all};
 use tab_words::{TextPiece, put_pieces};
-use table_cells::{Cell, put_cells};
 use vcpu_names::name_in;
+use view_cells::{Cell, put_cells};
 
 /// Writes how the VMs of a host of so many vCPUs and cores fit it.
 ///
@@ -99,7 +99,7 @@ fn put_loads<K: Sink>(sink: &mut K, loads: &[u32]) -> Result<(), WriteFault>
 // Writes the row of each core.
 fn put_cores<K: Sink>(sink: &mut K, loads: &[u32]) -> Result<(), WriteFault>
     requires { length loads.now ≤ MAX_CORES }
-    ensures { Writes (K.state sink.old) (K.state sink.new) (texts_below (core_row loads.now) (length loads.now)) result }
+    ensures { Writes (K.state sink.old) (K.state sink.new) (texts_below (fit_core_row loads.now) (length loads.now)) result }
 {
     for core in 0..loads.len() {
         put_core(sink, loads, core)?;
@@ -110,7 +110,7 @@ fn put_cores<K: Sink>(sink: &mut K, loads: &[u32]) -> Result<(), WriteFault>
 // Writes the row of a core.
 fn put_core<K: Sink>(sink: &mut K, loads: &[u32], core: usize) -> Result<(), WriteFault>
     requires { core < length loads.now }
-    ensures { Writes (K.state sink.old) (K.state sink.new) (core_row loads.now core) result }
+    ensures { Writes (K.state sink.old) (K.state sink.new) (fit_core_row loads.now core) result }
 {
     put_load(
         sink,
@@ -124,7 +124,7 @@ fn put_core<K: Sink>(sink: &mut K, loads: &[u32], core: usize) -> Result<(), Wri
 fn put_host<K: Sink>(sink: &mut K, loads: &[u32]) -> Result<(), WriteFault>
     requires few { length loads.now ≤ MAX_CORES }
     requires some { 1 ≤ length loads.now }
-    ensures { Writes (K.state sink.old) (K.state sink.new) (host_row loads.now) result }
+    ensures { Writes (K.state sink.old) (K.state sink.new) (fit_host_row loads.now) result }
 {
     let ticks = loads.len() as u64 * u64::from(ROUND);
     put_load(sink, &Cell::Text(b"host"), total_of(loads), ticks)
@@ -133,7 +133,7 @@ fn put_host<K: Sink>(sink: &mut K, loads: &[u32]) -> Result<(), WriteFault>
 // The load of all cores together.
 fn total_of(loads: &[u32]) -> u64
     requires { length loads.now ≤ MAX_CORES }
-    ensures total { result ≡ total_of loads.now }
+    ensures total { result ≡ total_load loads.now }
     ensures small { result < 2 ^ 40 }
 {
     let mut total = 0;

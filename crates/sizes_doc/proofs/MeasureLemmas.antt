@@ -2,13 +2,13 @@
 use Rattle.std.proofs.Common.{◌≡◌, inl, inr, codes, [], ℕ, ◌<◌, List, ◌++◌, Option, Some, None, MatchOption, subst, sym, ◌∙◌, arith}
 use Rattle.std.proofs.lemmas.List.{append_cancel_right}
 use Rattle.tab_core.specs.declared.TheConstants.{MAX_LATENCY_NS, WHOLE_PPM}
-use Rattle.sizes_doc.specs.Inside.Held.{Holds}
-use Rattle.sizes_doc.specs.Sizes.{HasPoint, IsBadLatency, IsBadShare, IsMeasure, IsNoShare, IsPart, IsPercent, IsPercentage, IsShareAbove, IsTime, IsTimeAbove}
+use Rattle.sizes_doc.specs.Inside.Held.{HoldsSaturated}
+use Rattle.sizes_doc.specs.Sizes.{HasPoint, IsBadLatency, IsBadShare, IsMeasure, IsNoShare, IsPercent, IsPercentage, IsShareAbove, IsShareWord, IsTime, IsTimeAbove}
 use Rattle.sizes_doc.specs.declared.fault.Part.TheVariants as part
 
 -- what holds a value of one kind holds it of a wider kind
-pub held_of : (narrow wide : ℕ → Type 0) (held : ℕ) → ((n : ℕ) → narrow n → wide n) → Holds narrow held
-    → Holds wide held
+pub held_of : (narrow wide : ℕ → Type 0) (held : ℕ) → ((n : ℕ) → narrow n → wide n) → HoldsSaturated narrow held
+    → HoldsSaturated wide held
 held_of narrow wide held wider holds = record {
   value = holds.value;
   is = wider holds.value holds.is;
@@ -34,7 +34,7 @@ no_percentage bytes no_whole no_point n is = elim is [ inl whole ↦ no_whole n 
 
 -- a word that is neither in percent nor in parts per million is none
 pub no_part : (word : List ℕ) → ((n : ℕ) → IsPercent word n → ⊥)
-    → ((n : ℕ) → IsMeasure (codes "ppm") 1 word n → ⊥) → (n : ℕ) → IsPart word n → ⊥
+    → ((n : ℕ) → IsMeasure (codes "ppm") 1 word n → ⊥) → (n : ℕ) → IsShareWord word n → ⊥
 no_part word no_percent no_ppm n is = elim is [ inl percent ↦ no_percent n percent | inr ppm ↦ no_ppm n ppm ]
 
 -- a percentage with its sign is what is before the sign
@@ -43,33 +43,33 @@ pub percent_before : (word bytes : List ℕ) (ppm : ℕ) → word ≡ bytes ++ c
 percent_before word bytes ppm is p = append_cancel_right p.bytes bytes (codes "%") (sym p.written ∙ is)
 
 -- a share that is read as none is none
-pub share_zero : (word : List ℕ) (ppm : ℕ) → Holds (IsPart word) ppm → ppm ≡ 0 → IsBadShare word part.ShareZero
+pub share_zero : (word : List ℕ) (ppm : ℕ) → HoldsSaturated (IsShareWord word) ppm → ppm ≡ 0 → IsBadShare word part.ShareZero
 share_zero word ppm holds none =
     let same : ppm ≡ holds.value = holds.kept.exact (omega (arith, none)) in
-    IsNoShare (subst (IsPart word) (sym same ∙ none) holds.is)
+    IsNoShare (subst (IsShareWord word) (sym same ∙ none) holds.is)
 
 -- one that is read as more than the whole is above it
-pub share_above : (word : List ℕ) (ppm : ℕ) → Holds (IsPart word) ppm → WHOLE_PPM < ppm
+pub share_above : (word : List ℕ) (ppm : ℕ) → HoldsSaturated (IsShareWord word) ppm → WHOLE_PPM < ppm
     → IsBadShare word part.ShareAbove
 share_above word ppm holds above = IsShareAbove holds.value holds.is (omega (arith, holds.kept.least, above))
 
 -- a latency that is read as more than the bound is above it
-pub latency_above : (word : List ℕ) (ns : ℕ) → Holds (IsTime word) ns → MAX_LATENCY_NS < ns
+pub latency_above : (word : List ℕ) (ns : ℕ) → HoldsSaturated (IsTime word) ns → MAX_LATENCY_NS < ns
     → IsBadLatency word part.LatencyAbove
 latency_above word ns holds above = IsTimeAbove holds.value holds.is (omega (arith, holds.kept.least, above))
 
 -- a percentage is whole or has a point
 pub percentage_with : (bytes : List ℕ) (r : Option ℕ) → ((n : ℕ) → IsMeasure [] 10000 bytes n → ⊥)
-    → MatchOption r ((n : ℕ) → HasPoint bytes n → ⊥) (Holds (HasPoint bytes))
-    → MatchOption r ((n : ℕ) → IsPercentage bytes n → ⊥) (Holds (IsPercentage bytes))
+    → MatchOption r ((n : ℕ) → HasPoint bytes n → ⊥) (HoldsSaturated (HasPoint bytes))
+    → MatchOption r ((n : ℕ) → IsPercentage bytes n → ⊥) (HoldsSaturated (IsPercentage bytes))
 percentage_with bytes None no_whole read = no_percentage bytes no_whole read
 percentage_with bytes (Some held) no_whole read =
     held_of (HasPoint bytes) (λ n. IsPercentage bytes n) held (λ n is. inr is) read
 
 -- one with its sign is one before the sign
 pub percent_with : (word bytes : List ℕ) (r : Option ℕ) → word ≡ bytes ++ codes "%"
-    → MatchOption r ((n : ℕ) → IsPercentage bytes n → ⊥) (Holds (IsPercentage bytes))
-    → MatchOption r ((n : ℕ) → IsPercent word n → ⊥) (Holds (IsPercent word))
+    → MatchOption r ((n : ℕ) → IsPercentage bytes n → ⊥) (HoldsSaturated (IsPercentage bytes))
+    → MatchOption r ((n : ℕ) → IsPercent word n → ⊥) (HoldsSaturated (IsPercent word))
 percent_with word bytes None is read = λ n p.
     read n (subst (λ (b : List ℕ). IsPercentage b n) (percent_before word bytes n is p) p.is)
 percent_with word bytes (Some held) is read =
@@ -78,18 +78,18 @@ percent_with word bytes (Some held) is read =
 
 -- parts per million are in percent or by themselves
 pub part_with : (word : List ℕ) (r : Option ℕ) → ((n : ℕ) → IsPercent word n → ⊥)
-    → MatchOption r ((n : ℕ) → IsMeasure (codes "ppm") 1 word n → ⊥) (Holds (IsMeasure (codes "ppm") 1 word))
-    → MatchOption r ((n : ℕ) → IsPart word n → ⊥) (Holds (IsPart word))
+    → MatchOption r ((n : ℕ) → IsMeasure (codes "ppm") 1 word n → ⊥) (HoldsSaturated (IsMeasure (codes "ppm") 1 word))
+    → MatchOption r ((n : ℕ) → IsShareWord word n → ⊥) (HoldsSaturated (IsShareWord word))
 part_with word None no_percent read = no_part word no_percent read
 part_with word (Some held) no_percent read =
-    held_of (IsMeasure (codes "ppm") 1 word) (λ n. IsPart word n) held (λ n is. inr is) read
+    held_of (IsMeasure (codes "ppm") 1 word) (λ n. IsShareWord word n) held (λ n is. inr is) read
 
 -- a time is in one of four units
 pub time_with : (word : List ℕ) (r : Option ℕ) → ((n : ℕ) → IsMeasure (codes "ms") 1000000 word n → ⊥)
     → ((n : ℕ) → IsMeasure (codes "us") 1000 word n → ⊥) → ((n : ℕ) → IsMeasure (codes "ns") 1 word n → ⊥)
     → MatchOption r ((n : ℕ) → IsMeasure (codes "s") 1000000000 word n → ⊥)
-    (Holds (IsMeasure (codes "s") 1000000000 word))
-    → MatchOption r ((n : ℕ) → IsTime word n → ⊥) (Holds (IsTime word))
+    (HoldsSaturated (IsMeasure (codes "s") 1000000000 word))
+    → MatchOption r ((n : ℕ) → IsTime word n → ⊥) (HoldsSaturated (IsTime word))
 time_with word None no_ms no_us no_ns read = no_time word no_ms no_us no_ns read
 time_with word (Some held) no_ms no_us no_ns read =
     held_of (IsMeasure (codes "s") 1000000000 word) (λ n. IsTime word n) held (λ n is. inr (inr (inr is))) read

@@ -3,13 +3,13 @@ use Rattle.std.proofs.Common.{◌≡◌, ◌≢◌, codes, ℕ, ◌+◌, ◌*◌
 use Rattle.std.specs.List.{All}
 use Rattle.tab_words.specs.Numbers.{Spells}
 use Rattle.sizes_doc.proofs.DecimalLemmas.{cut_once, number_no_point}
-use Rattle.sizes_doc.specs.Inside.Held.{Holds, IsHeld}
+use Rattle.sizes_doc.specs.Inside.Held.{HoldsSaturated, IsSaturated}
 use Rattle.sizes_doc.specs.Sizes.{AreDecimals, HasPoint}
 
 -- what is before the point and after it makes a number with a point
 pub pointed : (bytes before after : List ℕ) (number count held : ℕ) → bytes ≡ before ++ codes "." ++ after
-    → Spells before number → AreDecimals after count → IsHeld (number * 10000 + count) held
-    → Holds (HasPoint bytes) held
+    → Spells before number → AreDecimals after count → IsSaturated (number * 10000 + count) held
+    → HoldsSaturated (HasPoint bytes) held
 pointed bytes before after number count held is spelled decimals kept = record {
   value = number * 10000 + count;
   is = record {

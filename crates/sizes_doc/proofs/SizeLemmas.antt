@@ -5,14 +5,14 @@ use Rattle.tab_words.specs.Lines.{lines_of}
 use Rattle.tab_words.specs.Words.{words_of}
 use Rattle.script_doc.specs.Statements.{Statement, is_skipped, statements_from, statements_of}
 use Rattle.script_doc.proofs.StatementLemmas.{statements_from-nil, statements_from-kept, statements_from-skipped}
-use Rattle.sizes_doc.specs.SizeLines.{AreSizes, IsFirstBad, IsSizeLine}
-use Rattle.sizes_doc.specs.Sizes.{HasBadPart, HasParts, InPart, IsBadPart, IsSize, Parts}
+use Rattle.sizes_doc.specs.SizeLines.{AreSizes, IsFirstBadSize, IsSizeLine}
+use Rattle.sizes_doc.specs.Sizes.{HasBadPart, HasSizeParts, InPart, IsBadPart, IsSize, SizeParts}
 use Rattle.sizes_doc.specs.declared.fault.Part.{Part}
 use Rattle.sizes_doc.specs.declared.fault.SizesFault.TheVariants.{BadSize}
 use Rattle.sizes_doc.specs.declared.size.Size.{Size}
 
 -- a bad part of the words' parts is one of the words
-pub part_told : (words : List (List ℕ)) (parts : Parts) (r : Result Size Part) → HasParts words parts
+pub part_told : (words : List (List ℕ)) (parts : SizeParts) (r : Result Size Part) → HasSizeParts words parts
     → IfErr r (IsBadPart parts) → IfErr r (HasBadPart words)
 part_told words parts (Ok size) is bad = tt
 part_told words parts (Err part) is bad = InPart parts part is bad
@@ -71,7 +71,7 @@ more_read bytes number sizes line lines size read kept placed is =
 -- a line that is no size is the first such
 pub bad_line : (bytes : List ℕ) (number : ℕ) (sizes : List Size) (line : List ℕ) (lines : List (List ℕ))
     (part : Part) → AreRead bytes number sizes (line ∷ lines) → is_skipped line ≡ false
-    → HasBadPart (words_of line) part → IsFirstBad (statements_of bytes) (BadSize (number + 1) part)
+    → HasBadPart (words_of line) part → IsFirstBadSize (statements_of bytes) (BadSize (number + 1) part)
 bad_line bytes number sizes line lines part read kept bad = record {
   front = read.front;
   statement = record { number = number + 1; words = words_of line };

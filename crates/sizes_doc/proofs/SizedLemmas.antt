@@ -10,19 +10,19 @@ use Rattle.std.specs.List.{All, range_with_len}
 use Rattle.std.specs.Prelude.{IsSome}
 use Rattle.tab_core.proofs.Lists.{range_next}
 use Rattle.tab_core.specs.declared.vcpu.Vcpu.{Vcpu}
-use Rattle.sizes_doc.specs.SizedHost.{HasBadName, HasFault, NamesBadly, machine_vcpus, size_vcpus, sizes_vcpus, vcpu_of}
+use Rattle.sizes_doc.specs.SizedHost.{HasBadName, HasSizesFault, NamesBadly, machine_vcpus, size_vcpus, sized_vcpu, sizes_vcpus}
 use Rattle.sizes_doc.specs.declared.fault.SizesFault.{SizesFault}
 use Rattle.sizes_doc.specs.declared.fault.SizesFault.TheVariants.{BadName, NoMemory}
 use Rattle.sizes_doc.specs.declared.size.Size.{Size}
 
 -- one more vCPU of a VM
 pub vcpu_more : (size : Size) (machine number : ℕ) (before made : List Vcpu) (vcpu : Vcpu)
-    → made ≡ before ++ map (vcpu_of size machine) (range_with_len 0 number)
-    → vcpu ≡ vcpu_of size machine number
-    → made ++ vcpu ∷ [] ≡ before ++ map (vcpu_of size machine) (range_with_len 0 (number + 1))
+    → made ≡ before ++ map (sized_vcpu size machine) (range_with_len 0 number)
+    → vcpu ≡ sized_vcpu size machine number
+    → made ++ vcpu ∷ [] ≡ before ++ map (sized_vcpu size machine) (range_with_len 0 (number + 1))
 vcpu_more size machine number before made vcpu are is = rw (are, is)
-    (append_assoc before (map (vcpu_of size machine) (range_with_len 0 number)) (vcpu_of size machine number ∷ [])
-    ∙ ap (λ vcpus. before ++ vcpus) (sym (map-range_with_len_more (vcpu_of size machine) 0 number number (omega arith))))
+    (append_assoc before (map (sized_vcpu size machine) (range_with_len 0 number)) (sized_vcpu size machine number ∷ [])
+    ∙ ap (λ vcpus. before ++ vcpus) (sym (map-range_with_len_more (sized_vcpu size machine) 0 number number (omega arith))))
 
 -- one more VM of a size
 pub machine_more : (size : Size) (machine : ℕ) (before made : List Vcpu)
@@ -54,7 +54,7 @@ length-machines size first (suc count) =
     length-append (machine_vcpus size first) (flat_map (machine_vcpus size) (range_with_len (first + 1) count))
     ∙ omega (
       arith,
-      length-map-range_with_len (vcpu_of size first) 0 size.vcpus,
+      length-map-range_with_len (sized_vcpu size first) 0 size.vcpus,
       length-machines size (first + 1) count,
       suc-mul count size.vcpus,
     )
@@ -79,10 +79,10 @@ IsAdmitted vcpu = IsSome vcpu.reservation
 
 -- the vCPUs of a VM
 vcpus_admitted : (size : Size) (machine first count : ℕ)
-    → All IsAdmitted (map (vcpu_of size machine) (range_with_len first count))
+    → All IsAdmitted (map (sized_vcpu size machine) (range_with_len first count))
 vcpus_admitted size machine first zero = λ k d low. absurd (omega arith)
 vcpus_admitted size machine first (suc count) =
-    All-cons IsAdmitted (vcpu_of size machine first) (map (vcpu_of size machine) (range_with_len (first + 1) count))
+    All-cons IsAdmitted (sized_vcpu size machine first) (map (sized_vcpu size machine) (range_with_len (first + 1) count))
     refl (vcpus_admitted size machine (first + 1) count)
 
 -- those of some VMs
@@ -104,7 +104,7 @@ all_admitted (size ∷ sizes) = All-append IsAdmitted (size_vcpus size) (sizes_v
 -- a size whose names aren't names is the fault of all
 pub bad_at : (sizes : List Size) (index : ℕ) (size : Size) (fault : SizesFault) → index < length sizes
     → size ≡ get_or sizes index size → (fault ≡ NoMemory) ⊎ ((fault ≡ BadName size.line) × HasBadName size)
-    → (fault ≡ NoMemory) ⊎ HasFault sizes fault
+    → (fault ≡ NoMemory) ⊎ HasSizesFault sizes fault
 bad_at sizes index size fault within is (inl memory) = inl memory
-bad_at sizes index size fault within is (inr bad) = inr (subst (HasFault sizes) (sym bad.0)
+bad_at sizes index size fault within is (inr bad) = inr (subst (HasSizesFault sizes) (sym bad.0)
     (NamesBadly (take index sizes) size (drop (suc index) sizes) (parted sizes index size within is) bad.1))

@@ -23,11 +23,11 @@ bad_part_words part.LatencyUnit = codes "the latency has no unit: write it as 20
 bad_part_words part.LatencyAbove = codes "the latency is above 1000s"
 
 -- the fault in words
-abbrev pub fault_words : SizesFault → List ℕ
-fault_words (sizes.BadSize line part) = codes "size " ++ (decimal line ++ (codes ": " ++ bad_part_words part))
-fault_words (sizes.TooMany line) =
+abbrev pub sizes_fault_words : SizesFault → List ℕ
+sizes_fault_words (sizes.BadSize line part) = codes "size " ++ (decimal line ++ (codes ": " ++ bad_part_words part))
+sizes_fault_words (sizes.TooMany line) =
     codes "size " ++ (decimal line ++ (codes ": more than " ++ (decimal MAX_VCPUS ++ codes " vCPUs in all")))
-fault_words (sizes.BadName line) =
+sizes_fault_words (sizes.BadName line) =
     codes "size " ++ (decimal line ++ codes ": its name doesn't make names of vCPUs")
-fault_words (sizes.SameName vcpu) = codes "the name of vcpu " ++ (decimal vcpu ++ codes " stands twice")
-fault_words sizes.NoMemory = codes "want of memory"
+sizes_fault_words (sizes.SameName vcpu) = codes "the name of vcpu " ++ (decimal vcpu ++ codes " stands twice")
+sizes_fault_words sizes.NoMemory = codes "want of memory"

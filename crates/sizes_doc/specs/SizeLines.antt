@@ -20,7 +20,7 @@ AreSizes [] (size ∷ sizes) = ⊥
 AreSizes (statement ∷ statements) [] = ⊥
 
 -- the statements before a statement are sizes, and it has this as its first bad part
-pub record IsFirstBad (statements : List Statement) (fault : SizesFault) : Type 0 where
+pub record IsFirstBadSize (statements : List Statement) (fault : SizesFault) : Type 0 where
   pub front : List Statement
   pub statement : Statement
   pub back : List Statement

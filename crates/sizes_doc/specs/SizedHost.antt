@@ -22,8 +22,8 @@ vcpu_name size machine number =
     machine_name size.alone size.name.now machine ++ (codes "." ++ decimal number)
 
 -- a vCPU of a VM of this size: admitted and runnable, and capped if its size is
-abbrev pub vcpu_of : Size → ℕ → ℕ → Vcpu
-vcpu_of size machine number = record {
+abbrev pub sized_vcpu : Size → ℕ → ℕ → Vcpu
+sized_vcpu size machine number = record {
   name = vcpu_name size machine number;
   reservation = Some size.reservation;
   runnable = true;
@@ -32,7 +32,7 @@ vcpu_of size machine number = record {
 
 -- the vCPUs of a VM
 abbrev pub machine_vcpus : Size → ℕ → List Vcpu
-machine_vcpus size machine = map (vcpu_of size machine) (range_with_len 0 size.vcpus)
+machine_vcpus size machine = map (sized_vcpu size machine) (range_with_len 0 size.vcpus)
 
 -- the vCPUs of all VMs of a size
 abbrev pub size_vcpus : Size → List Vcpu
@@ -48,7 +48,7 @@ pub record HaveGoodNames (vcpus : List Vcpu) : Type 0 where
   pub distinct : HaveDistinctNames vcpus
 
 -- the host of these sizes, with this tick
-pub record IsHostOf (cores tick : ℕ) (sizes : List Size) (host : Host) : Type 0 where
+pub record IsHostOfSizes (cores tick : ℕ) (sizes : List Size) (host : Host) : Type 0 where
   pub tick_ns : host.tick_ns ≡ tick
   pub cores_are : host.cores ≡ cores
   pub lag : host.lag ≡ 1000
@@ -77,10 +77,10 @@ pub record IsTwice (vcpus : List Vcpu) (vcpu : ℕ) : Type 0 where
   pub same : first.name ≡ second.name
 
 -- why sizes make no host
-pub data HasFault (sizes : List Size) : SizesFault → Type 0 where
+pub data HasSizesFault (sizes : List Size) : SizesFault → Type 0 where
   HasTooMany : (front : List Size) (size : Size) (back : List Size) → sizes ≡ front ++ size ∷ back
       → length (sizes_vcpus front) ≤ MAX_VCPUS
-      → MAX_VCPUS < length (sizes_vcpus front) + size.machines * size.vcpus → HasFault sizes (TooMany size.line)
+      → MAX_VCPUS < length (sizes_vcpus front) + size.machines * size.vcpus → HasSizesFault sizes (TooMany size.line)
   NamesBadly : (front : List Size) (size : Size) (back : List Size) → sizes ≡ front ++ size ∷ back
-      → HasBadName size → HasFault sizes (BadName size.line)
-  NamesTwice : (vcpu : ℕ) → IsTwice (sizes_vcpus sizes) vcpu → HasFault sizes (SameName vcpu)
+      → HasBadName size → HasSizesFault sizes (BadName size.line)
+  NamesTwice : (vcpu : ℕ) → IsTwice (sizes_vcpus sizes) vcpu → HasSizesFault sizes (SameName vcpu)

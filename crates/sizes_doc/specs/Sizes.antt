@@ -10,7 +10,7 @@ use Rattle.sizes_doc.specs.declared.size.Size.{Size}
 -- ---- the form
 
 -- the parts of a size, as they are written
-pub record Parts : Type 0 where
+pub record SizeParts : Type 0 where
   -- it is one VM, of this very name
   pub alone : Bool
   pub name : List ℕ
@@ -31,13 +31,13 @@ form_words true name machines vcpus rest = codes "vm" ∷ name ∷ vcpus ∷ res
 form_words false name machines vcpus rest = name ∷ machines ∷ codes "x" ∷ vcpus ∷ rest
 
 -- the words of these parts
-abbrev pub part_words : Parts → List (List ℕ)
+abbrev pub part_words : SizeParts → List (List ℕ)
 part_words parts = form_words parts.alone parts.name parts.machines parts.vcpus
     (parts.share ∷ parts.latency ∷ last_words parts.capped)
 
 -- the words have these parts. Words whose third is `x` are of the form with a count: `vm 3 x 2 20% 20ms`
 -- is of the VMs vm-0, vm-1 and vm-2. Where no VMs are counted, there is 1.
-pub record HasParts (words : List (List ℕ)) (parts : Parts) : Type 0 where
+pub record HasSizeParts (words : List (List ℕ)) (parts : SizeParts) : Type 0 where
   pub written : words ≡ part_words parts
   pub alone : parts.alone ≡ true → (parts.machines ≡ codes "1") × (parts.vcpus ≢ codes "x")
 
@@ -86,14 +86,14 @@ pub record IsPercent (word : List ℕ) (ppm : ℕ) : Type 0 where
   pub is : IsPercentage bytes ppm
 
 -- the word is so many parts per million, in percent or by themselves
-abbrev pub IsPart : List ℕ → ℕ → Type 0
-IsPart word ppm = IsPercent word ppm ⊎ IsMeasure (codes "ppm") 1 word ppm
+abbrev pub IsShareWord : List ℕ → ℕ → Type 0
+IsShareWord word ppm = IsPercent word ppm ⊎ IsMeasure (codes "ppm") 1 word ppm
 
 -- the word is this share in parts per million
 pub record IsShare (word : List ℕ) (ppm : ℕ) : Type 0 where
   pub some : 1 ≤ ppm
   pub whole : ppm ≤ WHOLE_PPM
-  pub measured : IsPart word ppm
+  pub measured : IsShareWord word ppm
 
 -- the word is a time of so many nanoseconds
 abbrev pub IsTime : List ℕ → ℕ → Type 0
@@ -109,7 +109,7 @@ pub record IsLatency (word : List ℕ) (ns : ℕ) : Type 0 where
 -- ---- sizes
 
 -- the parts are those of this size
-pub record IsSizeOf (parts : Parts) (size : Size) : Type 0 where
+pub record IsSizeOf (parts : SizeParts) (size : Size) : Type 0 where
   pub alone : size.alone ≡ parts.alone
   pub name : size.name.now ≡ parts.name
   pub machines : IsCount parts.machines size.machines
@@ -120,8 +120,8 @@ pub record IsSizeOf (parts : Parts) (size : Size) : Type 0 where
 
 -- the words are those of this size
 pub record IsSize (words : List (List ℕ)) (size : Size) : Type 0 where
-  pub parts : Parts
-  pub written : HasParts words parts
+  pub parts : SizeParts
+  pub written : HasSizeParts words parts
   pub are : IsSizeOf parts size
 
 -- ---- bad parts
@@ -130,9 +130,9 @@ pub record IsSize (words : List (List ℕ)) (size : Size) : Type 0 where
 -- with a unit
 pub data IsBadShare (word : List ℕ) : Part → Type 0 where
   NoShareUnit : (ppm : ℕ) → IsPercentage word ppm → IsBadShare word part.ShareUnit
-  IsNoShare : IsPart word 0 → IsBadShare word part.ShareZero
-  IsShareAbove : (ppm : ℕ) → IsPart word ppm → WHOLE_PPM < ppm → IsBadShare word part.ShareAbove
-  NoShare : ((ppm : ℕ) → IsPart word ppm → ⊥) → ((ppm : ℕ) → IsPercentage word ppm → ⊥)
+  IsNoShare : IsShareWord word 0 → IsBadShare word part.ShareZero
+  IsShareAbove : (ppm : ℕ) → IsShareWord word ppm → WHOLE_PPM < ppm → IsBadShare word part.ShareAbove
+  NoShare : ((ppm : ℕ) → IsShareWord word ppm → ⊥) → ((ppm : ℕ) → IsPercentage word ppm → ⊥)
       → IsBadShare word part.Share
 
 -- why the word is no latency: a number without a unit, above the bound, or no number with a unit
@@ -143,7 +143,7 @@ pub data IsBadLatency (word : List ℕ) : Part → Type 0 where
       → IsBadLatency word part.Latency
 
 -- the first of the parts that isn't as a size has it
-pub data IsBadPart (parts : Parts) : Part → Type 0 where
+pub data IsBadPart (parts : SizeParts) : Part → Type 0 where
   NoMachines : ((n : ℕ) → IsCount parts.machines n → ⊥) → IsBadPart parts part.Machines
   NoVcpus : (machines : ℕ) → IsCount parts.machines machines
       → ((n : ℕ) → IsCount parts.vcpus n → ⊥) → IsBadPart parts part.Vcpus
@@ -155,6 +155,6 @@ pub data IsBadPart (parts : Parts) : Part → Type 0 where
 
 -- the words don't have the form of a size, or this is their first bad part
 pub data HasBadPart (words : List (List ℕ)) : Part → Type 0 where
-  NoForm : ((parts : Parts) → HasParts words parts → ⊥) → HasBadPart words part.Form
-  InPart : (parts : Parts) (part : Part) → HasParts words parts → IsBadPart parts part
+  NoForm : ((parts : SizeParts) → HasSizeParts words parts → ⊥) → HasBadPart words part.Form
+  InPart : (parts : SizeParts) (part : Part) → HasSizeParts words parts → IsBadPart parts part
       → HasBadPart words part

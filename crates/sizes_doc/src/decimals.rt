@@ -1,7 +1,7 @@
 ghost use Rattle.std.specs.Prelude.{◌≡◌, ◌≢◌, ℕ, ◌+◌, ◌*◌, ◌++◌, ◌≤◌, ◌<◌, ◌^◌, List, IfSome, MatchOption, SomeIff, All, codes, length};
 ghost use Rattle.std.specs.Char.{digit_value};
 ghost use Rattle.std.specs.Str.Parse.{AllDigits, digits_value};
-ghost use Rattle.sizes_doc.specs.Inside.Held.{Holds, IsHeld};
+ghost use Rattle.sizes_doc.specs.Inside.Held.{HoldsSaturated, IsSaturated};
 ghost use Rattle.sizes_doc.specs.Sizes.{AreDecimals, HasPoint};
 
 use crate::measure::times;
@@ -9,7 +9,7 @@ use tab_words::read_number;
 
 // The ten-thousandths of a number with a point.
 pub(crate) fn pointed_of(bytes: &[u8]) -> Option<u64>
-    ensures { MatchOption result ((value : ℕ) → HasPoint bytes.now value → ⊥) (Holds (HasPoint bytes.now)) }
+    ensures { MatchOption result ((value : ℕ) → HasPoint bytes.now value → ⊥) (HoldsSaturated (HasPoint bytes.now)) }
 {
     let Some((before, after)) = cut_at_point(bytes) else {
         return None;
@@ -25,7 +25,7 @@ pub(crate) fn pointed_of(bytes: &[u8]) -> Option<u64>
 
 // The sum, or the greatest of 64 bits.
 fn plus(value: u64, more: u64) -> u64
-    ensures { (whole : ℕ) → IsHeld whole value → IsHeld (whole + more) result }
+    ensures { (whole : ℕ) → IsSaturated whole value → IsSaturated (whole + more) result }
 {
     match value.checked_add(more) {
         Some(sum) => sum,

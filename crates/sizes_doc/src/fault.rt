@@ -1,5 +1,5 @@
 ghost use Rattle.std.specs.Prelude.{◌≡◌, Some};
-ghost use Rattle.sizes_doc.specs.Faults.{bad_part_words, fault_words};
+ghost use Rattle.sizes_doc.specs.Faults.{bad_part_words, sizes_fault_words};
 ghost use Rattle.sizes_doc.specs.declared.fault.SizesFault.TheVariants.{NoMemory};
 
 use std::alloc::{AllocError, AllocFailed};
@@ -72,7 +72,7 @@ pub enum SizesFault {
 }
 
 impl fmt::Display for SizesFault {
-    ghost output = { λ fault. Some (fault_words fault) };
+    ghost output = { λ fault. Some (sizes_fault_words fault) };
 
     fn fmt<W: fmt::Write>(&self, f: &mut fmt::Formatter<W>) -> fmt::Result {
         match self {

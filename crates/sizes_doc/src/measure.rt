@@ -1,6 +1,6 @@
 ghost use Rattle.std.specs.Prelude.{◌≡◌, ◌≢◌, ℕ, ◌*◌, ◌++◌, List, IfErr, IfOk, MatchOption, decimal};
-ghost use Rattle.sizes_doc.specs.Inside.Held.{Holds, IsHeld};
-ghost use Rattle.sizes_doc.specs.Sizes.{IsBadLatency, IsBadShare, IsCount, IsLatency, IsMeasure, IsPart, IsPercent, IsPercentage, IsShare, IsTime};
+ghost use Rattle.sizes_doc.specs.Inside.Held.{HoldsSaturated, IsSaturated};
+ghost use Rattle.sizes_doc.specs.Sizes.{IsBadLatency, IsBadShare, IsCount, IsLatency, IsMeasure, IsPercent, IsPercentage, IsShare, IsShareWord, IsTime};
 
 use crate::decimals::pointed_of;
 use crate::fault::Part;
@@ -63,7 +63,7 @@ pub(crate) fn latency_of(word: &[u8]) -> Result<u64, Part>
 
 // The parts per million that a word is.
 fn part_of(word: &[u8]) -> Option<u64>
-    ensures { MatchOption result ((ppm : ℕ) → IsPart word.now ppm → ⊥) (Holds (IsPart word.now)) }
+    ensures { MatchOption result ((ppm : ℕ) → IsShareWord word.now ppm → ⊥) (HoldsSaturated (IsShareWord word.now)) }
 {
     if let Some(ppm) = percent_of(word) {
         return Some(ppm);
@@ -73,7 +73,7 @@ fn part_of(word: &[u8]) -> Option<u64>
 
 // The parts per million that a percentage with its sign is.
 fn percent_of(word: &[u8]) -> Option<u64>
-    ensures { MatchOption result ((ppm : ℕ) → IsPercent word.now ppm → ⊥) (Holds (IsPercent word.now)) }
+    ensures { MatchOption result ((ppm : ℕ) → IsPercent word.now ppm → ⊥) (HoldsSaturated (IsPercent word.now)) }
 {
     let Some(bytes) = without(word, b"%") else {
         return None;
@@ -84,7 +84,7 @@ fn percent_of(word: &[u8]) -> Option<u64>
 // Those that a percentage without its sign is.
 fn percentage_of(bytes: &[u8]) -> Option<u64>
     ensures { MatchOption result ((ppm : ℕ) → IsPercentage bytes.now ppm → ⊥)
-        (Holds (IsPercentage bytes.now)) }
+        (HoldsSaturated (IsPercentage bytes.now)) }
 {
     if let Some(ppm) = in_unit(bytes, b"", 10_000) {
         return Some(ppm);
@@ -94,7 +94,7 @@ fn percentage_of(bytes: &[u8]) -> Option<u64>
 
 // The nanoseconds that a time is.
 fn time_of(word: &[u8]) -> Option<u64>
-    ensures { MatchOption result ((ns : ℕ) → IsTime word.now ns → ⊥) (Holds (IsTime word.now)) }
+    ensures { MatchOption result ((ns : ℕ) → IsTime word.now ns → ⊥) (HoldsSaturated (IsTime word.now)) }
 {
     if let Some(ns) = in_unit(word, b"ms", 1_000_000) {
         return Some(ns);
@@ -111,7 +111,7 @@ fn time_of(word: &[u8]) -> Option<u64>
 // The value of a number with this unit after it.
 fn in_unit(word: &[u8], unit: &[u8], factor: u64) -> Option<u64>
     ensures { MatchOption result ((value : ℕ) → IsMeasure unit.now factor word.now value → ⊥)
-        (Holds (IsMeasure unit.now factor word.now)) }
+        (HoldsSaturated (IsMeasure unit.now factor word.now)) }
 {
     let Some(digits) = without(word, unit) else {
         return None;
@@ -124,7 +124,7 @@ fn in_unit(word: &[u8], unit: &[u8], factor: u64) -> Option<u64>
 
 // So many times the factor.
 pub(crate) fn times(number: u64, factor: u64) -> u64
-    ensures { IsHeld (number * factor) result }
+    ensures { IsSaturated (number * factor) result }
 {
     match number.checked_mul(factor) {
         Some(value) => value,

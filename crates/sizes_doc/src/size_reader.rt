@@ -1,9 +1,9 @@
 ghost use Rattle.std.specs.Prelude.{◌≡◌, ℕ, ◌<◌, ◌^◌, ◌⊎◌, ◌∷◌, Bool, List, length, IfErr, IfOk, MatchOption};
 ghost use Rattle.tab_words.specs.Words.{words_of};
 ghost use Rattle.script_doc.specs.Statements.{statements_of};
-ghost use Rattle.sizes_doc.specs.Sizes.{HasBadPart, HasParts, IsBadPart, IsSize, IsSizeOf, Parts, last_words};
+ghost use Rattle.sizes_doc.specs.Sizes.{HasBadPart, HasSizeParts, IsBadPart, IsSize, IsSizeOf, SizeParts, last_words};
 ghost use Rattle.sizes_doc.specs.Inside.Written.{HasHead, parts_in};
-ghost use Rattle.sizes_doc.specs.SizeLines.{AreSizes, IsFirstBad};
+ghost use Rattle.sizes_doc.specs.SizeLines.{AreSizes, IsFirstBadSize};
 ghost use Rattle.sizes_doc.specs.declared.fault.SizesFault.TheVariants.{NoMemory};
 
 use crate::fault::{Part, SizesFault};
@@ -24,7 +24,7 @@ use tab_words::{Lines, Words};
 pub fn read_sizes(alloc: Global, bytes: &[u8]) -> Result<Vec<Size<'_>>, SizesFault>
     requires { length bytes.now < 2 ^ 32 }
     ensures ok { IfOk result (λ sizes. AreSizes (statements_of bytes.now) sizes.items) }
-    ensures fault { IfErr result (λ fault. (fault ≡ NoMemory) ⊎ IsFirstBad (statements_of bytes.now) fault) }
+    ensures fault { IfErr result (λ fault. (fault ≡ NoMemory) ⊎ IsFirstBadSize (statements_of bytes.now) fault) }
 {
     let mut sizes = Vec::new(alloc);
     let mut number = 0;
@@ -78,8 +78,8 @@ struct Rest<'a> {
 
 // The parts that the line has, if it has the form of a size.
 fn parts_of(line: &[u8]) -> Option<Written<'_>>
-    ensures { MatchOption result ((parts : Parts) → HasParts (words_of line.now) parts → ⊥)
-        (λ written. HasParts (words_of line.now) (parts_in written)) }
+    ensures { MatchOption result ((parts : SizeParts) → HasSizeParts (words_of line.now) parts → ⊥)
+        (λ written. HasSizeParts (words_of line.now) (parts_in written)) }
 {
     let mut words = Words::of(line);
     let Some(head) = head_of(&mut words) else {

@@ -1,7 +1,7 @@
 ghost use Rattle.std.specs.Prelude.{◌≡◌, ◌<◌, ◌≤◌, ◌⊎◌, ◌++◌, ◌*◌, ◌+◌, All, IfErr, IfOk, IsSome, OnOk};
 ghost use Rattle.tab_core.specs.Name.{IsName};
 ghost use Rattle.tab_core.specs.declared.TheConstants.{MAX_CORES, MAX_TICK_NS, MAX_VCPUS, MIN_TICK_NS};
-ghost use Rattle.sizes_doc.specs.SizedHost.{HasBadName, HasFault, IsHostOf, machine_vcpus, size_vcpus, vcpu_name, vcpu_of};
+ghost use Rattle.sizes_doc.specs.SizedHost.{HasBadName, HasSizesFault, IsHostOfSizes, machine_vcpus, size_vcpus, sized_vcpu, vcpu_name};
 ghost use Rattle.sizes_doc.specs.declared.fault.SizesFault.TheVariants.{NoMemory, BadName};
 
 use crate::fault::SizesFault;
@@ -30,9 +30,9 @@ pub fn host_of_sizes(
     requires few_cores { cores ≤ MAX_CORES }
     requires least_tick { MIN_TICK_NS ≤ tick_ns }
     requires most_tick { tick_ns ≤ MAX_TICK_NS }
-    ensures host { IfOk result (IsHostOf cores tick_ns sizes.now) }
+    ensures host { IfOk result (IsHostOfSizes cores tick_ns sizes.now) }
     ensures admitted { IfOk result (λ host. All (λ vcpu. IsSome vcpu.reservation) host.vcpus) }
-    ensures fault { IfErr result (λ fault. (fault ≡ NoMemory) ⊎ HasFault sizes.now fault) }
+    ensures fault { IfErr result (λ fault. (fault ≡ NoMemory) ⊎ HasSizesFault sizes.now fault) }
 {
     let mut vcpus = Vec::new(alloc);
     for size in sizes {
@@ -87,7 +87,7 @@ fn push_machine(
 
 // The vCPU of this number of the VM of this number.
 fn vcpu_of(alloc: Global, size: &Size<'_>, machine: u32, number: u32) -> Result<Vcpu, SizesFault>
-    ensures ok { IfOk result (λ vcpu. vcpu ≡ vcpu_of size.now machine number) }
+    ensures ok { IfOk result (λ vcpu. vcpu ≡ sized_vcpu size.now machine number) }
     ensures fault { IfErr result (λ fault. (fault ≡ NoMemory)
         ⊎ ((fault ≡ BadName size.now.line) × ¬ (IsName (vcpu_name size.now machine number)))) }
 {

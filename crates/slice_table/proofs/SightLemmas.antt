@@ -7,7 +7,7 @@ use Rattle.std.proofs.lemmas.Option.{same_Some, slice_get_read}
 use Rattle.tab_core.specs.VcpuSets.{has_vcpu}
 use Rattle.tab_core.specs.declared.TheConstants.{MAX_VCPUS}
 use Rattle.table_form.specs.declared.spot.Spot.{Spot}
-use Rattle.table_form.specs.Inside.Looks.{IsPart}
+use Rattle.table_form.specs.Inside.Looks.{IsSpotSoFar}
 use Rattle.table_form.specs.Tables.Plans.{PlanView}
 use Rattle.table_form.specs.Tables.Rows.{Row}
 use Rattle.table_form.specs.Tables.Serves.{owner_at}
@@ -114,7 +114,7 @@ away_moves plan scope place x v k is lt stands away = record {
 
 -- all rows that matter were looked at
 pub sight_whole : (plan : PlanView) (scope : Scope) (place : ℕ) (spot : Spot) → IsScope plan scope
-    → IsSightOf plan scope place (length scope.others.items) spot → IsPart plan scope.core place spot
+    → IsSightOf plan scope place (length scope.others.items) spot → IsSpotSoFar plan scope.core place spot
 sight_whole plan scope place spot is sight = record {
   owner = sight.owner;
   size = sight.size;

@@ -11,7 +11,7 @@ use Rattle.std.proofs.lemmas.List.Elements.{All-append, All-cons, All-nil}
 use Rattle.std.proofs.lemmas.Nat.{div-mul-add, mod-mul-add, ones_cat, pow-add}
 use Rattle.tab_core.specs.declared.TheConstants.{ROUND}
 use Rattle.slice_table.specs.declared.slice_list.Block.{Block}
-use Rattle.slice_table.specs.Inside.SliceLists.{number_at, number_in, numbers_of}
+use Rattle.slice_table.specs.Inside.SliceLists.{number_in, numbers_of, slice_number_at}
 use Rattle.slice_table.specs.Inside.Spans.{AreEnds, IsNear}
 use Rattle.slice_table.specs.Slices.{AreSlices, HoldsTick, IsShortest}
 use Rattle.slice_table.proofs.EndsLemmas.{next_begin, one_more}
@@ -36,7 +36,7 @@ ones_more p d r low one = ones_cat p d r low ∙ ap (λ n. n + count_ones r) (on
 
 -- a block more changes no number of the others
 pub number_before : (blocks : List Block) (block : Block) (slice : ℕ) → slice < length blocks * 32
-    → number_at (blocks ++ block ∷ []) slice ≡ number_at blocks slice
+    → slice_number_at (blocks ++ block ∷ []) slice ≡ slice_number_at blocks slice
 number_before blocks block slice lt =
     let none : Block = record { first = 0; rises = 0 } in
     let there : slice / 32 < length blocks =
@@ -45,7 +45,7 @@ number_before blocks block slice lt =
 
 -- a block that is added has its own number after the others
 pub number_behind : (blocks : List Block) (block : Block) (slice place : ℕ) → slice ≡ length blocks * 32 + place
-    → place < 32 → number_at (blocks ++ block ∷ []) slice ≡ number_in block place
+    → place < 32 → slice_number_at (blocks ++ block ∷ []) slice ≡ number_in block place
 number_behind blocks block slice place is lt =
     let none : Block = record { first = 0; rises = 0 } in
     let at : slice / 32 ≡ length blocks = ap (λ n. n / 32) is ∙ div-mul-add (length blocks) 32 place lt in
@@ -58,29 +58,29 @@ number_behind blocks block slice place is lt =
 pub numbers_count : (blocks : List Block) (count : ℕ) → length (numbers_of blocks count) ≡ count
 numbers_count blocks zero = refl
 numbers_count blocks (suc n) =
-    (let more = length-append (numbers_of blocks n) (number_at blocks n ∷ []) in
+    (let more = length-append (numbers_of blocks n) (slice_number_at blocks n ∷ []) in
     let rest = numbers_count blocks n in omega arith)
 
 -- each is that of its slice
 pub number_read : (blocks : List Block) (count slice : ℕ) → slice < count
-    → slice_index (numbers_of blocks count) slice ≡ number_at blocks slice
+    → slice_index (numbers_of blocks count) slice ≡ slice_number_at blocks slice
 number_read blocks zero slice lt = absurd (omega arith)
 number_read blocks (suc n) slice lt =
     let size = numbers_count blocks n in
     elim (cases_lt slice n) [
-      | inl before ↦ get_or_append_left (numbers_of blocks n) (number_at blocks n ∷ []) 0 slice (omega arith)
+      | inl before ↦ get_or_append_left (numbers_of blocks n) (slice_number_at blocks n ∷ []) 0 slice (omega arith)
           ∙ number_read blocks n slice before
       | inr past ↦
           let here : slice ≡ n = omega arith in
           let at : slice ≡ length (numbers_of blocks n) = omega arith in
-          ap (slice_index (numbers_of blocks n ++ number_at blocks n ∷ [])) at
-          ∙ get_or-append_seam (numbers_of blocks n) (number_at blocks n) [] 0 ∙ ap (number_at blocks) (sym here)
+          ap (slice_index (numbers_of blocks n ++ slice_number_at blocks n ∷ [])) at
+          ∙ get_or-append_seam (numbers_of blocks n) (slice_number_at blocks n) [] 0 ∙ ap (slice_number_at blocks) (sym here)
     ]
 
 -- what is known of the first slices: their blocks, and that their numbers' spans hold their first ticks
 pub record AreSlicedTo (ends : List ℕ) (size : ℕ) (blocks : List Block) (slices : ℕ) : Type 0 where
   pub small : All (λ (block : Block). block.first ≤ ROUND) blocks
-  pub holds : (slice : ℕ) → slice < slices → HoldsTick ends (number_at blocks slice) (slice * size)
+  pub holds : (slice : ℕ) → slice < slices → HoldsTick ends (slice_number_at blocks slice) (slice * size)
 
 -- no slice yet
 pub sliced_none : (ends : List ℕ) (size : ℕ) → AreSlicedTo ends size [] 0

@@ -5,7 +5,7 @@ use Rattle.std.proofs.lemmas.Bool.{cases_lt}
 use Rattle.tab_core.specs.VcpuSets.{has_vcpu}
 use Rattle.tab_core.specs.declared.TheConstants.{MAX_VCPUS, ROUND}
 use Rattle.table_form.specs.declared.spot.Spot.{Spot}
-use Rattle.table_form.specs.Inside.Looks.{IsPart}
+use Rattle.table_form.specs.Inside.Looks.{IsSpotSoFar}
 use Rattle.table_form.specs.Tables.Plans.{PlanView}
 use Rattle.table_form.specs.Tables.Spots.{IsAway, IsSpanEnd, SameSpot}
 use Rattle.table_form.proofs.SpotLemmas.{alike_by_sets, sets_alike, spot_through}
@@ -17,8 +17,8 @@ use Rattle.slice_table.proofs.TableLemmas.{spans_more}
 
 -- where the place at the end of a part shows the same, its part belongs to it too
 pub part_grows : (plan : PlanView) (c from : ℕ) (spot next : Spot) → length plan.homes ≤ MAX_VCPUS
-    → IsPart plan c from spot → IsPart plan c spot.end next → spot.owner ≡ next.owner → spot.away ≡ next.away
-    → IsPart plan c from
+    → IsSpotSoFar plan c from spot → IsSpotSoFar plan c spot.end next → spot.owner ≡ next.owner → spot.away ≡ next.away
+    → IsSpotSoFar plan c from
     (record { owner = spot.owner; away = spot.away; end = next.end })
 part_grows plan c from spot next few was more owner away =
     let at_end : SameSpot plan c from spot.end =
@@ -37,8 +37,8 @@ part_grows plan c from spot next few was more owner away =
     }
 
 -- where it shows something else the part is the whole span
-pub part_ends : (plan : PlanView) (c from : ℕ) (spot next : Spot) → IsPart plan c from spot
-    → IsPart plan c spot.end next → ((spot.owner ≡ next.owner) × (spot.away ≡ next.away) → ⊥)
+pub part_ends : (plan : PlanView) (c from : ℕ) (spot next : Spot) → IsSpotSoFar plan c from spot
+    → IsSpotSoFar plan c spot.end next → ((spot.owner ≡ next.owner) × (spot.away ≡ next.away) → ⊥)
     → IsSpanEnd plan c from spot.end
 part_ends plan c from spot next was more other = record {
   after = was.after;
@@ -51,7 +51,7 @@ part_ends plan c from spot next was more other = record {
 }
 
 -- a part that reaches the round's end is the whole span
-pub part_last : (plan : PlanView) (c from : ℕ) (spot : Spot) → IsPart plan c from spot → spot.end ≡ ROUND
+pub part_last : (plan : PlanView) (c from : ℕ) (spot : Spot) → IsSpotSoFar plan c from spot → spot.end ≡ ROUND
     → IsSpanEnd plan c from spot.end
 part_last plan c from spot was last = record {
   after = was.after;
@@ -63,7 +63,7 @@ part_last plan c from spot was last = record {
 -- a spot with its sharers shows the place
 pub part_shown : (plan : PlanView) (scope : Scope) (place : ℕ) (spot : Spot) (span : FullSpan)
     → IsScope plan scope
-    → IsPart plan scope.core place spot → span.owner ≡ spot.owner → span.away ≡ spot.away
+    → IsSpotSoFar plan scope.core place spot → span.owner ≡ spot.owner → span.away ≡ spot.away
     → ((v : ℕ) → (IsTrue (has_vcpu span.sharers v)
     ↔ (IsTrue (has_vcpu scope.sharers v) × (IsTrue (has_vcpu spot.away v) → ⊥) × (spot.owner ≢ Some v))))
     → IsShown plan scope.core place span
@@ -97,7 +97,7 @@ part_shown plan scope place spot span is part owner away sharers = record {
 -- a spot with its sharers is the next span
 pub span_added : (plan : PlanView) (scope : Scope) (from : ℕ) (spans : List FullSpan) (spot : Spot)
     (span : FullSpan)
-    → IsScope plan scope → AreSpansOf plan scope.core 0 spans from → IsPart plan scope.core from spot
+    → IsScope plan scope → AreSpansOf plan scope.core 0 spans from → IsSpotSoFar plan scope.core from spot
     → IsSpanEnd plan scope.core from spot.end → span.owner ≡ spot.owner → span.away ≡ spot.away
     → span.end ≡ spot.end
     → ((v : ℕ) → (IsTrue (has_vcpu span.sharers v)

@@ -2,7 +2,7 @@ ghost use Rattle.std.specs.Prelude.{◌≡◌, ◌<◌, ◌↔◌, ◌⊎◌, �
 ghost use Rattle.tab_core.specs.VcpuSets.{has_vcpu};
 ghost use Rattle.tab_core.specs.declared.TheConstants.{MAX_VCPUS, ROUND};
 ghost use Rattle.table_form.specs.Tables.Views.{plan_view};
-ghost use Rattle.table_form.specs.Inside.Looks.{IsPart};
+ghost use Rattle.table_form.specs.Inside.Looks.{IsSpotSoFar};
 ghost use Rattle.slice_table.specs.Inside.Sweeps.{ArePast, IsScope};
 
 use crate::cursor::segment_from;
@@ -28,7 +28,7 @@ pub(crate) fn look(plan: &Plan, scope: &Scope, numbers: &mut [usize; ROWS], plac
     requires in_round { place < ROUND }
     requires scope { IsScope (plan_view plan.now) scope.now }
     requires past { ArePast plan.now.tables.rows place numbers.old }
-    ensures part { IsPart (plan_view plan.now) scope.now.core place result }
+    ensures part { IsSpotSoFar (plan_view plan.now) scope.now.core place result }
     ensures past { ArePast plan.now.tables.rows place numbers.new }
 {
     let rows = plan.tables.rows.items();

@@ -9,7 +9,7 @@ use Rattle.script_doc.specs.declared.step.Step.{Step}
 use Rattle.step_machine.specs.declared.answer.Phase.{Phase}
 use Rattle.step_machine.specs.declared.answer.Answer.{Answer}
 use Rattle.table_form.specs.Running.State.{State, CoreState}
-use Rattle.step_machine.specs.Answers.{Answers, shown}
+use Rattle.step_machine.specs.Answers.{AnswersStep, shown}
 use Rattle.table_form.specs.Running.Waiting.{AreWithinLag, IsFirstBehind}
 use Rattle.table_form.specs.Running.Stints.{IsNextStint}
 use Rattle.table_form.specs.Running.Entering.{Decides, EntersFirst, EntersAfter}
@@ -60,7 +60,7 @@ not_now_same f g p = cc
 
 -- Post has one answer
 post_one : (course : CourseView) (rounds : ℕ) (s : State) (a b : Answer) (new new' : State)
-    → Answers course rounds s steps.Post a new → Answers course rounds s steps.Post b new'
+    → AnswersStep course rounds s steps.Post a new → AnswersStep course rounds s steps.Post b new'
     → (a ≡ b) × (new ≡ new')
 post_one course rounds s Done Done n m p q = (refl, p.becomes ∙ sym q.becomes)
 post_one course rounds s Done (Behind (Core d) t) n m p q = absurd (low_or_near _ _ _ _ _ _ p.near q.0.low)
@@ -88,7 +88,7 @@ phases_same rounds c s x y h g =
 
 -- See has one answer
 see_one : (course : CourseView) (rounds c : ℕ) (s : State) (a b : Answer) (new new' : State)
-    → Answers course rounds s (steps.See c) a new → Answers course rounds s (steps.See c) b new'
+    → AnswersStep course rounds s (steps.See c) a new → AnswersStep course rounds s (steps.See c) b new'
     → (a ≡ b) × (new ≡ new')
 see_one course rounds c s Done Done n m p q =
     (let is : p.core ≡ q.core = same (slice_get s.cores c) p.core q.core p.at q.at in
@@ -163,8 +163,8 @@ entering_due rounds c s n p = elim p [
 
 -- Decide has one answer
 decide_one : (course : CourseView) (rounds c : ℕ) (s : State) (a b : Answer) (new new' : State)
-    → Answers course rounds s (steps.Decide c) a new
-    → Answers course rounds s (steps.Decide c) b new' → (a ≡ b) × (new ≡ new')
+    → AnswersStep course rounds s (steps.Decide c) a new
+    → AnswersStep course rounds s (steps.Decide c) b new' → (a ≡ b) × (new ≡ new')
 decide_one course rounds c s Done Done n m p q = (refl, one_entering rounds c s n m p q)
 decide_one course rounds c s Done (Behind w t) n m p q = absurd q.0
 decide_one course rounds c s Done (NotNow f) n m p q =
@@ -195,7 +195,7 @@ stint_same course rounds c s x y st su h g a b =
 
 -- Run has one answer, since the stint is determined
 run_one : (course : CourseView) (rounds c : ℕ) (s : State) (a b : Answer) (new new' : State)
-    → Answers course rounds s (steps.Run c) a new → Answers course rounds s (steps.Run c) b new'
+    → AnswersStep course rounds s (steps.Run c) a new → AnswersStep course rounds s (steps.Run c) b new'
     → (a ≡ b) × (new ≡ new')
 run_one course rounds c s Done Done n m p q =
     (let is = stint_same course rounds c s p.core q.core p.stint q.stint p.at q.at p.next q.next in
@@ -236,7 +236,7 @@ run_one course rounds c s (NotNow f) (NotNow g) n m p q = (
 
 -- the law, over the four kinds of step
 pub one_answer : (course : CourseView) (rounds : ℕ) (s : State) (step : Step) (a b : Answer)
-    (new new' : State) → Answers course rounds s step a new → Answers course rounds s step b new'
+    (new new' : State) → AnswersStep course rounds s step a new → AnswersStep course rounds s step b new'
     → (a ≡ b) × (new ≡ new')
 one_answer course rounds s steps.Post a b n m p q = post_one course rounds s a b n m p q
 one_answer course rounds s (steps.See c) a b n m p q = see_one course rounds c s a b n m p q

@@ -16,7 +16,7 @@ use Rattle.step_machine.specs.Answers.{Moves}
 use Rattle.table_form.specs.Running.Phases.{phase_of, round_of, to_decide}
 use Rattle.table_form.specs.Running.Posting.{Posts, Sees}
 use Rattle.table_form.specs.Running.Entering.{EntersFirst, EntersAfter, enters}
-use Rattle.table_form.specs.Running.Stints.{Runs, IsNextStint, runs}
+use Rattle.table_form.specs.Running.Stints.{RunsNextStint, IsNextStint, runs}
 use Rattle.table_form.specs.Promises.Fresh.{HasUpTo}
 use Rattle.table_form.specs.Running.Invariant.{StintInvariant, SightInvariant, CoreInvariant, StateInvariant}
 use Rattle.table_form.specs.Promises.OneTable.{HasOneTable, UsesCounts}
@@ -476,7 +476,7 @@ uses_ran course rounds c decided core s uses next = record {
 
 -- Run keeps what is kept
 pub runs_keep : (course : CourseView) (rounds c : ℕ) (old new : State) → IsCourse course
-    → Runs course rounds c old new → StateInvariant course rounds old → StateInvariant course rounds new
+    → RunsNextStint course rounds c old new → StateInvariant course rounds old → StateInvariant course rounds new
 runs_keep course rounds c old new ok p k =
     let core : CoreState = p.core in
     let s : Stint = p.stint in

@@ -11,10 +11,10 @@ use Rattle.table_form.specs.Running.Courses.{CourseView}
 use Rattle.table_form.specs.Running.State.{State, CoreState, opening_core}
 use Rattle.script_doc.specs.declared.step.Step.{Step}
 use Rattle.script_doc.specs.declared.step.Step.TheVariants as steps
-use Rattle.step_machine.specs.Answers.{Answers, Moves}
+use Rattle.step_machine.specs.Answers.{AnswersStep, Moves}
 use Rattle.step_machine.specs.declared.core_log.CoreLog.{CoreLog}
-use Rattle.step_machine.specs.Inside.Logs.{core_of, cores_of}
-use Rattle.step_machine.specs.Inside.Marks.{AllStand, Stands, all_made, core_in, entry_made, made_by, stint_made}
+use Rattle.step_machine.specs.Inside.Logs.{core_of_log, cores_of_logs}
+use Rattle.step_machine.specs.Inside.Marks.{AllStand, IsMarkThere, all_made, core_in, entry_made, made_by, stint_made}
 use Rattle.step_machine.specs.Traces.{AreMadeBy, EndsWith}
 use Rattle.step_machine.specs.declared.answer.Answer.{Answer}
 use Rattle.step_machine.specs.declared.answer.Answer.TheVariants.{Done, Behind, NotNow}
@@ -102,13 +102,13 @@ moves_grow course rounds old (steps.Run c) new m =
 
 -- whatever its answer is
 pub answers_grow : (course : CourseView) (rounds : ℕ) (old : State) (step : Step) (answer : Answer)
-    (new : State) → Answers course rounds old step answer new → AreGrown old.cores new.cores
+    (new : State) → AnswersStep course rounds old step answer new → AreGrown old.cores new.cores
 answers_grow course rounds old step Done new moves = moves_grow course rounds old step new moves
 answers_grow course rounds old step (Behind who tick) new waits = rw waits.1 (grown_same old.cores)
 answers_grow course rounds old step (NotNow found) new waits = rw waits.1 (grown_same old.cores)
 
 -- what a mark refers to is still there
-stands_still : (old new : List CoreState) (m : Mark) → AreGrown old new → Stands old m → Stands new m
+stands_still : (old new : List CoreState) (m : Mark) → AreGrown old new → IsMarkThere old m → IsMarkThere new m
 stands_still old new (marks.Entered c place) grown is =
     let more = grown.each c in
     let n = length-append (core_in old c).entries more.new_entries in
@@ -119,7 +119,7 @@ stands_still old new (marks.Ran c place) grown is =
     (omega (arith, grown.size, is.0), omega (arith, ap length more.stints, n, is.1))
 
 -- what a mark refers to is what it was
-made_still : (old new : List CoreState) (m : Mark) → AreGrown old new → Stands old m
+made_still : (old new : List CoreState) (m : Mark) → AreGrown old new → IsMarkThere old m
     → made_by new m ≡ made_by old m
 made_still old new (marks.Entered c place) grown is =
     let more = grown.each c in
@@ -140,8 +140,8 @@ pub all_made_still : (old new : List CoreState) (ms : List Mark) → AreGrown ol
     → all_made new ms ≡ all_made old ms
 all_made_still old new [] grown stand = refl
 all_made_still old new (m ∷ ms) grown stand =
-    let first = made_still old new m grown (All-head (Stands old) m ms stand) in
-    let rest = all_made_still old new ms grown (All-tail (Stands old) m ms stand) in
+    let first = made_still old new m grown (All-head (IsMarkThere old) m ms stand) in
+    let rest = all_made_still old new ms grown (All-tail (IsMarkThere old) m ms stand) in
     ap (λ (x : Made). x ∷ all_made new ms) first ∙ ap (λ (xs : List Made). made_by old m ∷ xs) rest
 
 -- the last of a list is at the place before its length
@@ -164,16 +164,16 @@ all_made_more : (cores : List CoreState) (ms : List Mark) (m : Mark) (made : Lis
 all_made_more cores ms m made is = rw is (map_push (made_by cores) ms m)
 
 -- what the marks refer to is there where one is added of which that holds
-pub stand_more : (cores : List CoreState) (ms : List Mark) (m : Mark) → Stands cores m → AllStand cores ms
+pub stand_more : (cores : List CoreState) (ms : List Mark) (m : Mark) → IsMarkThere cores m → AllStand cores ms
     → AllStand cores (ms ++ m ∷ [])
 stand_more cores ms m one stand =
-    All-append (Stands cores) ms (m ∷ []) stand (only_one (Stands cores) m one)
+    All-append (IsMarkThere cores) ms (m ∷ []) stand (only_one (IsMarkThere cores) m one)
 
 -- the mark of the last of so many entries of a core refers to what a Decide made
 pub entry_marked : (s : State) (c n : ℕ) (core : CoreState) (ms : List Mark) (made : List Made)
     → slice_get s.cores c ≡ Some core → n ≡ length core.entries → AreMadeBy (steps.Decide c) s made
     → (all_made s.cores (ms ++ marks.Entered c (n - 1) ∷ []) ≡ all_made s.cores ms ++ made)
-    × Stands s.cores (marks.Entered c (n - 1))
+    × IsMarkThere s.cores (marks.Entered c (n - 1))
 entry_marked s c n core ms made at is by =
     let found : core_in s.cores c ≡ core = get_or_from_slice_get s.cores c core opening_core at in
     let long : n ≡ length (core_in s.cores c).entries =
@@ -187,7 +187,7 @@ entry_marked s c n core ms made at is by =
 pub stint_marked : (s : State) (c n : ℕ) (core : CoreState) (ms : List Mark) (made : List Made)
     → slice_get s.cores c ≡ Some core → n ≡ length core.stints → AreMadeBy (steps.Run c) s made
     → (all_made s.cores (ms ++ marks.Ran c (n - 1) ∷ []) ≡ all_made s.cores ms ++ made)
-    × Stands s.cores (marks.Ran c (n - 1))
+    × IsMarkThere s.cores (marks.Ran c (n - 1))
 stint_marked s c n core ms made at is by =
     let found : core_in s.cores c ≡ core = get_or_from_slice_get s.cores c core opening_core at in
     let long : n ≡ length (core_in s.cores c).stints =
@@ -208,6 +208,6 @@ run_there s c made by = (core_there s.cores c (λ is. ends_some (core_in s.cores
     (ap (λ (x : CoreState). x.stints) is))).1
 
 -- the log that an index finds of a core that is there
-pub log_read : (logs : List CoreLog) (c : ℕ) (log : CoreLog) → c < length (cores_of logs)
+pub log_read : (logs : List CoreLog) (c : ℕ) (log : CoreLog) → c < length (cores_of_logs logs)
     → log ≡ slice_index_or logs c log → slice_get logs c ≡ Some log
-log_read logs c log lt is = slice_get_read logs (length logs) c log refl (omega (arith, lt, length-map logs core_of)) is
+log_read logs c log lt is = slice_get_read logs (length logs) c log refl (omega (arith, lt, length-map logs core_of_log)) is

@@ -7,7 +7,7 @@ use Rattle.script_doc.specs.declared.step.Step.{Step}
 use Rattle.script_doc.specs.declared.step.Step.TheVariants as steps
 use Rattle.table_form.specs.Running.Courses.{CourseView}
 use Rattle.table_form.specs.Running.State.{State, opening}
-use Rattle.step_machine.specs.Answers.{Answers, Moves}
+use Rattle.step_machine.specs.Answers.{AnswersStep, Moves}
 use Rattle.step_machine.specs.Refusals.{IsRefused}
 use Rattle.step_machine.specs.Runs.{Leads}
 use Rattle.step_machine.specs.Traces.{AreMadeBy, EndsWith, IsTrace}
@@ -66,7 +66,7 @@ record IsRefusedFrom (course : CourseView) (rounds : ℕ) (old : State) (taken :
   pub before : Leads course rounds old (take place taken) mid
   pub step : Step
   pub at : slice_get taken place ≡ Some step
-  pub answered : Answers course rounds mid step answer mid
+  pub answered : AnswersStep course rounds mid step answer mid
   pub not_done : answer ≢ Done
 
 -- a refusal of a list of steps is one from the opening
@@ -84,12 +84,12 @@ from_opening course rounds taken place answer is = record {
 
 -- the answer to the first step, where that is the one refused
 at_once : (course : CourseView) (rounds : ℕ) (old : State) (first : Step) (taken : List Step) (answer : Answer)
-    → IsRefusedFrom course rounds old (first ∷ taken) zero answer → Answers course rounds old first answer old
+    → IsRefusedFrom course rounds old (first ∷ taken) zero answer → AnswersStep course rounds old first answer old
 at_once course rounds old first taken answer is =
     let at = is.at in
     let step : is.step ≡ first = cc in
-    subst (λ t. Answers course rounds old t answer old) step
-    (subst (λ s. Answers course rounds s is.step answer s) (sym is.before) is.answered)
+    subst (λ t. AnswersStep course rounds old t answer old) step
+    (subst (λ s. AnswersStep course rounds s is.step answer s) (sym is.before) is.answered)
 
 -- that step isn't allowed
 not_allowed : (course : CourseView) (rounds : ℕ) (old : State) (first : Step) (taken : List Step)

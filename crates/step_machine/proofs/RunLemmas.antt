@@ -7,16 +7,16 @@ use Rattle.table_form.specs.Running.Courses.{CourseView, IsCourse}
 use Rattle.script_doc.specs.declared.step.Step.{Step}
 use Rattle.step_machine.specs.declared.answer.Answer.{Answer}
 use Rattle.table_form.specs.Running.State.{State, CoreState, opening, opening_core}
-use Rattle.step_machine.specs.Answers.{Moves, Answers}
+use Rattle.step_machine.specs.Answers.{Moves, AnswersStep}
 use Rattle.table_form.specs.Running.Invariant.{CoreInvariant, StateInvariant}
 use Rattle.table_form.specs.Promises.OneTable.{UsesCounts}
 use Rattle.table_form.specs.Running.Choice.{last_shared}
 use Rattle.step_machine.specs.declared.answer.Answer.TheVariants.{Done, Behind, NotNow}
 use Rattle.step_machine.specs.declared.core_log.CoreLog.{CoreLog}
-use Rattle.step_machine.specs.Inside.Logs.{cores_of, KnowLast, HaveRoom, IsNew, AreNew}
+use Rattle.step_machine.specs.Inside.Logs.{cores_of_logs, KnowLast, LogsHaveRoom, IsNew, AreLogsNew}
 use Rattle.step_machine.specs.Runs.{Leads}
 use Rattle.step_machine.specs.declared.machine_state.MachineState.{MachineState}
-use Rattle.step_machine.specs.Inside.MachineStates.{state_of}
+use Rattle.step_machine.specs.Inside.MachineStates.{state_of_machine}
 use Rattle.step_machine.proofs.InvariantLemmas.{moves_keep}
 
 -- each core of the opening is as new
@@ -69,7 +69,7 @@ opening_kept course rounds = record {
 
 -- whatever the answer to a step is, the state after it keeps the invariant
 pub answers_keep : (course : CourseView) (rounds : ℕ) (old : State) (step : Step) (answer : Answer)
-    (new : State) → IsCourse course → Answers course rounds old step answer new
+    (new : State) → IsCourse course → AnswersStep course rounds old step answer new
     → StateInvariant course rounds old → StateInvariant course rounds new
 answers_keep course rounds old step Done new ok moves kept =
     moves_keep course rounds old step new ok moves kept
@@ -86,8 +86,8 @@ leads_keep course rounds old (step ∷ steps) new ok leads kept =
     (moves_keep course rounds old step leads.0 ok leads.1 kept)
 
 -- new logs stand for the cores of the opening
-pub cores_new : (count rounds turns : ℕ) (logs : List CoreLog) → AreNew count rounds turns logs
-    → cores_of logs ≡ replicate count opening_core
+pub cores_new : (count rounds turns : ℕ) (logs : List CoreLog) → AreLogsNew count rounds turns logs
+    → cores_of_logs logs ≡ replicate count opening_core
 cores_new zero rounds turns [] new = refl
 cores_new zero rounds turns (log ∷ logs) new = absurd (let n = new.count_is in omega arith)
 cores_new (suc count) rounds turns [] new = absurd (let n = new.count_is in omega arith)
@@ -102,8 +102,8 @@ cores_new (suc count) rounds turns (log ∷ logs) new =
 
 -- one more new log leaves all new
 pub new_more : (count rounds turns : ℕ) (logs : List CoreLog) (log : CoreLog)
-    → AreNew count rounds turns logs → IsNew rounds turns log
-    → AreNew (length (logs ++ log ∷ [])) rounds turns (logs ++ log ∷ [])
+    → AreLogsNew count rounds turns logs → IsNew rounds turns log
+    → AreLogsNew (length (logs ++ log ∷ [])) rounds turns (logs ++ log ∷ [])
 new_more count rounds turns logs log are is = record {
   count_is = refl;
   new = λ k x h. elim (push_split logs k log x h) [
@@ -115,21 +115,21 @@ new_more count rounds turns logs log are is = record {
 
 -- a state of new logs is the opening
 pub new_state : (count rounds turns : ℕ) (p : MachineState) → p.posted ≡ 0 → p.decided.items ≡ []
-    → AreNew count rounds turns p.logs.items → state_of p ≡ opening count
+    → AreLogsNew count rounds turns p.logs.items → state_of_machine p ≡ opening count
 new_state count rounds turns p posted decided new =
     rw (posted, decided, cores_new count rounds turns p.logs.items new) refl
 
 -- new logs know that nobody was picked
 pub new_know : (course : CourseView) (count rounds turns : ℕ) (logs : List CoreLog)
-    → AreNew count rounds turns logs → KnowLast course logs
+    → AreLogsNew count rounds turns logs → KnowLast course logs
 new_know course count rounds turns logs new = λ k log h.
     let is = new.new k log h in
     let none = ap (λ (x : CoreState). x.stints) is.core in
     is.last ∙ sym (ap (λ (ss : List Stint). last_shared course k ss) none)
 
 -- new logs have room for the steps that are to come
-pub new_room : (count rounds turns : ℕ) (logs : List CoreLog) → AreNew count rounds turns logs
-    → HaveRoom rounds turns logs
+pub new_room : (count rounds turns : ℕ) (logs : List CoreLog) → AreLogsNew count rounds turns logs
+    → LogsHaveRoom rounds turns logs
 new_room count rounds turns logs new = λ k log h. (new.new k log h).room
 
 -- one step more at the end of a list
@@ -142,8 +142,8 @@ leads_more course rounds old (first ∷ steps) mid step new leads moves =
 
 -- a step that isn't done changes nothing
 pub refused_stays : (course : CourseView) (rounds : ℕ) (old : State) (step : Step) (answer : Answer)
-    (new : State) → answer ≢ Done → Answers course rounds old step answer new
-    → Answers course rounds old step answer old
+    (new : State) → answer ≢ Done → AnswersStep course rounds old step answer new
+    → AnswersStep course rounds old step answer old
 refused_stays course rounds old step Done new isnt moves = absurd (isnt refl)
 refused_stays course rounds old step (Behind who tick) new isnt waits = (waits.0, refl)
 refused_stays course rounds old step (NotNow found) new isnt waits = (waits.0, refl)

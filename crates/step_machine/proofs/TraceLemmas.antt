@@ -16,7 +16,7 @@ use Rattle.step_machine.specs.declared.trace.Made.{Made}
 use Rattle.step_machine.specs.declared.trace.Made.TheVariants.{Entered, Ran}
 use Rattle.step_machine.specs.declared.answer.Answer.{Answer}
 use Rattle.step_machine.specs.declared.answer.Answer.TheVariants.{Done, Behind, NotNow}
-use Rattle.step_machine.specs.Answers.{Answers, Moves}
+use Rattle.step_machine.specs.Answers.{AnswersStep, Moves}
 use Rattle.step_machine.specs.Cores.{core_at}
 use Rattle.step_machine.specs.Runs.{Leads}
 use Rattle.step_machine.specs.Traces.{AreMadeBy, AreOfCourse, EndsWith, IsOfCourse, IsTrace}
@@ -62,7 +62,7 @@ makes course rounds old (steps.Run c) new m =
 
 -- a step that the answer says is done has made what its kind makes
 pub makes_done : (course : CourseView) (rounds : ℕ) (old : State) (step : Step) (answer : Answer)
-    (new : State) → Answers course rounds old step answer new → answer ≡ Done
+    (new : State) → AnswersStep course rounds old step answer new → answer ≡ Done
     → (made : List Made) × AreMadeBy step new made
 makes_done course rounds old step Done new m is = makes course rounds old step new m
 makes_done course rounds old step (Behind who tick) new m is = absurd cc

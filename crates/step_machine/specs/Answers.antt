@@ -14,7 +14,7 @@ use Rattle.table_form.specs.Promises.Fresh.{HasUpTo}
 use Rattle.table_form.specs.Running.Waiting.{IsFirstBehind}
 use Rattle.table_form.specs.Running.Posting.{Posts, Sees}
 use Rattle.table_form.specs.Running.Entering.{Decides}
-use Rattle.table_form.specs.Running.Stints.{Runs, IsNextStint}
+use Rattle.table_form.specs.Running.Stints.{RunsNextStint, IsNextStint}
 use Rattle.step_machine.specs.declared.answer.Answer.{Answer}
 use Rattle.step_machine.specs.declared.answer.Answer.TheVariants.{Done, Behind, NotNow}
 use Rattle.step_machine.specs.declared.answer.Phase.{Phase}
@@ -25,7 +25,7 @@ abbrev pub Moves : CourseView → ℕ → State → Step → State → Type 0
 Moves course rounds old steps.Post new = Posts course old new
 Moves course rounds old (steps.See c) new = Sees course rounds c old new
 Moves course rounds old (steps.Decide c) new = Decides rounds c old new
-Moves course rounds old (steps.Run c) new = Runs course rounds c old new
+Moves course rounds old (steps.Run c) new = RunsNextStint course rounds c old new
 
 -- the name that an answer gives to a core's phase
 abbrev pub shown : CorePhase → Phase
@@ -42,7 +42,7 @@ pub record IsOtherPhase (rounds c : ℕ) (s : State) (wanted : CorePhase) (found
   pub differs : phase_of rounds core ≢ wanted
 
 -- core c is at the end of the run, and this is the phase that is answered
-pub record HasFinished (rounds c : ℕ) (s : State) (found : Phase) : Type 0 where
+pub record IsFinishedPhase (rounds c : ℕ) (s : State) (found : Phase) : Type 0 where
   pub core : CoreState
   pub at : IsCore s c core
   pub finished : phase_of rounds core ≡ at_end
@@ -51,7 +51,7 @@ pub record HasFinished (rounds c : ℕ) (s : State) (found : Phase) : Type 0 whe
 -- the step isn't due, and why
 abbrev pub IsNotDue : CourseView → ℕ → State → Step → Phase → Type 0
 IsNotDue course rounds s steps.Post found = (s.posted ≡ length course.ticks) × (found ≡ phases.AllPosted)
-IsNotDue course rounds s (steps.See c) found = HasFinished rounds c s found
+IsNotDue course rounds s (steps.See c) found = IsFinishedPhase rounds c s found
 IsNotDue course rounds s (steps.Decide c) found = IsOtherPhase rounds c s to_decide found
 IsNotDue course rounds s (steps.Run c) found = IsOtherPhase rounds c s to_run found
 
@@ -87,10 +87,10 @@ IsBehind course rounds s (steps.Run c) (Core d) tick = RunWaits course rounds c 
 IsBehind course rounds s (steps.Run c) Controller tick = ⊥
 
 -- the answer to a step, and the state after it, which is another only where the step is done
-abbrev pub Answers : CourseView → ℕ → State → Step → Answer → State → Type 0
-Answers course rounds old step Done new = Moves course rounds old step new
-Answers course rounds old step (Behind who tick) new = IsBehind course rounds old step who tick × (new ≡ old)
-Answers course rounds old step (NotNow found) new = IsNotDue course rounds old step found × (new ≡ old)
+abbrev pub AnswersStep : CourseView → ℕ → State → Step → Answer → State → Type 0
+AnswersStep course rounds old step Done new = Moves course rounds old step new
+AnswersStep course rounds old step (Behind who tick) new = IsBehind course rounds old step who tick × (new ≡ old)
+AnswersStep course rounds old step (NotNow found) new = IsNotDue course rounds old step found × (new ≡ old)
 
 -- a core that the step names is one of the course's
 abbrev pub NamesCore : CourseView → Step → Type 0

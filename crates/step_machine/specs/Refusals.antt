@@ -7,7 +7,7 @@ use Rattle.step_machine.specs.declared.answer.Answer.{Answer}
 use Rattle.step_machine.specs.declared.answer.Answer.TheVariants.{Done}
 use Rattle.step_machine.specs.declared.fault.ReplayFault.{ReplayFault}
 use Rattle.step_machine.specs.declared.fault.ReplayFault.TheVariants.{Refused, NoMemory}
-use Rattle.step_machine.specs.Answers.{Answers}
+use Rattle.step_machine.specs.Answers.{AnswersStep}
 use Rattle.step_machine.specs.Runs.{Leads}
 
 -- the steps before the place are allowed, and the one there isn't done, with this answer
@@ -17,7 +17,7 @@ pub record IsRefused (course : CourseView) (rounds : ℕ) (steps : List Step) (p
   pub before : Leads course rounds (opening course.cores) (take place steps) mid
   pub step : Step
   pub at : slice_get steps place ≡ Some step
-  pub answered : Answers course rounds mid step answer mid
+  pub answered : AnswersStep course rounds mid step answer mid
   pub not_done : answer ≢ Done
 
 -- the fault of a replay is the refusal of its steps; running out of memory says nothing of them

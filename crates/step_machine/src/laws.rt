@@ -7,7 +7,7 @@ ghost use Rattle.table_form.specs.Promises.Run.{KeepsPromises};
 ghost use Rattle.table_form.specs.Running.State.{State, CoreState, opening};
 ghost use Rattle.table_form.specs.Running.Stints.{IsNextStint};
 ghost use Rattle.step_machine.specs.declared.answer.Answer.{Answer};
-ghost use Rattle.step_machine.specs.Answers.{Answers, Moves};
+ghost use Rattle.step_machine.specs.Answers.{AnswersStep, Moves};
 ghost use Rattle.step_machine.specs.Refusals.{IsRefused};
 ghost use Rattle.step_machine.specs.Runs.{Leads};
 ghost use Rattle.step_machine.specs.Traces.{IsTrace};
@@ -43,8 +43,8 @@ pub fn next_stint_is_determined()
 /// A step has one answer, and leads to one state.
 pub fn a_step_has_one_answer()
     ensures { (course : CourseView) (rounds : ℕ) (s : State) (step : Step) (a b : Answer)
-        (new other : State) → Answers course rounds s step a new
-        → Answers course rounds s step b other → (a ≡ b) × (new ≡ other) }
+        (new other : State) → AnswersStep course rounds s step a new
+        → AnswersStep course rounds s step b other → (a ≡ b) × (new ≡ other) }
 {}
 
 /// A list of steps has at most one run, which ends in one state and makes one list of entries and

@@ -4,7 +4,7 @@ ghost use Rattle.table_form.specs.Running.Invariant.{StateInvariant};
 ghost use Rattle.table_form.specs.Running.Complete.{IsComplete};
 ghost use Rattle.step_machine.specs.Inside.Logs.{IsLowestOf};
 ghost use Rattle.step_machine.specs.Next.{IsNextStep};
-ghost use Rattle.step_machine.specs.Inside.MachineStates.{state_of};
+ghost use Rattle.step_machine.specs.Inside.MachineStates.{state_of_machine};
 
 use crate::answer::Phase;
 use crate::core_log::CoreLog;
@@ -17,9 +17,9 @@ use table_form::Course;
 // A step that is allowed now, where the run isn't whole.
 pub(crate) fn next_step(course: &Course, rounds: u32, machine: &MachineState) -> Option<Step>
     requires fits { FitsRounds course.now rounds }
-    requires kept { StateInvariant course.now rounds (state_of machine.now) }
-    ensures some { IfSome result (λ step. IsNextStep course.now rounds (state_of machine.now) step) }
-    ensures none { IfNone result (IsComplete course.now rounds (state_of machine.now)) }
+    requires kept { StateInvariant course.now rounds (state_of_machine machine.now) }
+    ensures some { IfSome result (λ step. IsNextStep course.now rounds (state_of_machine machine.now) step) }
+    ensures none { IfNone result (IsComplete course.now rounds (state_of_machine machine.now)) }
 {
     // the course keeps what its type says
     let _lag = course.lag();

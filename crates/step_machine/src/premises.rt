@@ -7,7 +7,7 @@ ghost use Rattle.table_form.specs.Running.Waiting.{AreWithinLag, IsFirstBehind};
 ghost use Rattle.table_form.specs.Promises.Fresh.{HasUpTo};
 ghost use Rattle.step_machine.specs.declared.core_log.CoreLog.{CoreLog as LogValue};
 ghost use Rattle.step_machine.specs.Answers.{shown};
-ghost use Rattle.step_machine.specs.Inside.Logs.{core_of, cores_of};
+ghost use Rattle.step_machine.specs.Inside.Logs.{core_of_log, cores_of_logs};
 
 use crate::answer::Phase;
 use crate::core_log::CoreLog;
@@ -18,7 +18,7 @@ use table_form::Course;
 pub(crate) fn phase_at(log: &CoreLog, rounds: u32) -> Phase
     requires few { rounds ≤ MAX_ROUNDS }
     requires numbered { (k : ℕ) (e : EntryValue) → slice_get log.now.entries.items k ≡ Some e → e.round ≡ k }
-    ensures { result ≡ shown (phase_of rounds (core_of log.now)) }
+    ensures { result ≡ shown (phase_of rounds (core_of_log log.now)) }
 {
     if log.clock == rounds * ROUND {
         return Phase::Finished;
@@ -56,8 +56,8 @@ pub(crate) struct Low {
 pub(crate) fn lowest_behind(logs: &[CoreLog], lag: u32, skip: Option<u32>, tick: u32) -> Option<Low>
     requires few { length logs.now ≤ MAX_CORES }
     requires small { (k : ℕ) (log : LogValue) → slice_get logs.now k ≡ Some log → log.clock + lag < 2 ^ 32 }
-    ensures some { IfSome result (λ low. IsFirstBehind lag (cores_of logs.now) skip tick low.core low.clock) }
-    ensures none { IfNone result (AreWithinLag lag (cores_of logs.now) skip tick) }
+    ensures some { IfSome result (λ low. IsFirstBehind lag (cores_of_logs logs.now) skip tick low.core low.clock) }
+    ensures none { IfNone result (AreWithinLag lag (cores_of_logs logs.now) skip tick) }
 {
     if are_within(logs, lag, tick) {
         return None;
@@ -69,7 +69,7 @@ pub(crate) fn lowest_behind(logs: &[CoreLog], lag: u32, skip: Option<u32>, tick:
 // registers to itself.
 #[inline(never)]
 fn are_within(logs: &[CoreLog], lag: u32, tick: u32) -> bool
-    ensures { result ≡ true → (d : ℕ) (other : CoreState) → slice_get (cores_of logs.now) d ≡ Some other
+    ensures { result ≡ true → (d : ℕ) (other : CoreState) → slice_get (cores_of_logs logs.now) d ≡ Some other
         → tick ≤ other.clock + lag }
 {
     let least = tick.saturating_sub(lag);
@@ -86,8 +86,8 @@ fn are_within(logs: &[CoreLog], lag: u32, tick: u32) -> bool
 fn first_behind(logs: &[CoreLog], lag: u32, skip: Option<u32>, tick: u32) -> Option<Low>
     requires few { length logs.now ≤ MAX_CORES }
     requires small { (k : ℕ) (log : LogValue) → slice_get logs.now k ≡ Some log → log.clock + lag < 2 ^ 32 }
-    ensures some { IfSome result (λ low. IsFirstBehind lag (cores_of logs.now) skip tick low.core low.clock) }
-    ensures none { IfNone result (AreWithinLag lag (cores_of logs.now) skip tick) }
+    ensures some { IfSome result (λ low. IsFirstBehind lag (cores_of_logs logs.now) skip tick low.core low.clock) }
+    ensures none { IfNone result (AreWithinLag lag (cores_of_logs logs.now) skip tick) }
 {
     for d in 0..logs.len() {
         let log = &logs[d];

@@ -5,9 +5,9 @@ ghost use Rattle.table_form.specs.Running.Invariant.{StateInvariant};
 ghost use Rattle.table_form.specs.Running.State.{CoreState};
 ghost use Rattle.table_form.specs.Running.Entering.{Decides};
 ghost use Rattle.table_form.specs.Running.Phases.{to_decide, phase_of, round_of};
-ghost use Rattle.step_machine.specs.Answers.{Answers};
-ghost use Rattle.step_machine.specs.Inside.Logs.{cores_of, KnowLast};
-ghost use Rattle.step_machine.specs.Inside.MachineStates.{state_of, HasSpare};
+ghost use Rattle.step_machine.specs.Answers.{AnswersStep};
+ghost use Rattle.step_machine.specs.Inside.Logs.{cores_of_logs, KnowLast};
+ghost use Rattle.step_machine.specs.Inside.MachineStates.{state_of_machine, HasSpare};
 ghost use Rattle.step_machine.specs.Inside.Worlds.{HaveSlices};
 
 use crate::answer::{Answer, Phase};
@@ -23,9 +23,9 @@ use table_form::Course;
 // Posts the next event, if no clock is too low.
 pub(crate) fn post(course: &Course, rounds: u32, machine: &mut MachineState) -> Answer
     requires few { rounds ≤ MAX_ROUNDS }
-    requires kept { StateInvariant course.now rounds (state_of machine.old) }
-    ensures answer { Answers course.now rounds (state_of machine.old) Step.Post result
-        (state_of machine.new) }
+    requires kept { StateInvariant course.now rounds (state_of_machine machine.old) }
+    ensures answer { AnswersStep course.now rounds (state_of_machine machine.old) Step.Post result
+        (state_of_machine machine.new) }
     ensures spare { (n : ℕ) → HasSpare rounds (n + 1) machine.old → HasSpare rounds n machine.new }
     ensures last { KnowLast course.now machine.old.logs.items → KnowLast course.now machine.new.logs.items }
 {
@@ -51,9 +51,9 @@ pub(crate) fn post(course: &Course, rounds: u32, machine: &mut MachineState) -> 
 pub(crate) fn see(course: &Course, rounds: u32, machine: &mut MachineState, c: usize) -> Answer
     requires few { rounds ≤ MAX_ROUNDS }
     requires core { c < course.now.cores }
-    requires kept { StateInvariant course.now rounds (state_of machine.old) }
-    ensures answer { Answers course.now rounds (state_of machine.old) (Step.See c) result
-        (state_of machine.new) }
+    requires kept { StateInvariant course.now rounds (state_of_machine machine.old) }
+    ensures answer { AnswersStep course.now rounds (state_of_machine machine.old) (Step.See c) result
+        (state_of_machine machine.new) }
     ensures spare { (n : ℕ) → HasSpare rounds (n + 1) machine.old → HasSpare rounds n machine.new }
     ensures last { KnowLast course.now machine.old.logs.items → KnowLast course.now machine.new.logs.items }
 {
@@ -77,10 +77,10 @@ pub(crate) fn see(course: &Course, rounds: u32, machine: &mut MachineState, c: u
 pub(crate) fn decide(course: &Course, rounds: u32, machine: &mut MachineState, c: usize) -> Answer
     requires few { rounds ≤ MAX_ROUNDS }
     requires core { c < course.now.cores }
-    requires kept { StateInvariant course.now rounds (state_of machine.old) }
+    requires kept { StateInvariant course.now rounds (state_of_machine machine.old) }
     requires spare { HasSpare rounds 1 machine.old }
-    ensures answer { Answers course.now rounds (state_of machine.old) (Step.Decide c) result
-        (state_of machine.new) }
+    ensures answer { AnswersStep course.now rounds (state_of_machine machine.old) (Step.Decide c) result
+        (state_of_machine machine.new) }
     ensures spare { (n : ℕ) → HasSpare rounds (n + 1) machine.old → HasSpare rounds n machine.new }
     ensures last { KnowLast course.now machine.old.logs.items → KnowLast course.now machine.new.logs.items }
 {
@@ -98,11 +98,11 @@ pub(crate) fn decide(course: &Course, rounds: u32, machine: &mut MachineState, c
 fn enter(course: &Course, rounds: u32, machine: &mut MachineState, c: usize, round: u32, seen: u32)
     requires few { rounds ≤ MAX_ROUNDS }
     requires core { c < course.now.cores }
-    requires kept { StateInvariant course.now rounds (state_of machine.old) }
+    requires kept { StateInvariant course.now rounds (state_of_machine machine.old) }
     requires spare { HasSpare rounds 1 machine.old }
-    requires due { (core : CoreState) → slice_get (cores_of machine.old.logs.items) c ≡ Some core
+    requires due { (core : CoreState) → slice_get (cores_of_logs machine.old.logs.items) c ≡ Some core
         → (phase_of rounds core ≡ to_decide) × (core.seen ≡ Some seen) × (round ≡ round_of core) }
-    ensures answer { Decides rounds c (state_of machine.old) (state_of machine.new) }
+    ensures answer { Decides rounds c (state_of_machine machine.old) (state_of_machine machine.new) }
     ensures spare { (n : ℕ) → HasSpare rounds (n + 1) machine.old → HasSpare rounds n machine.new }
     ensures last { KnowLast course.now machine.old.logs.items → KnowLast course.now machine.new.logs.items }
 {
@@ -144,11 +144,11 @@ pub(crate) fn run(
     requires few { rounds ≤ MAX_ROUNDS }
     requires core { c < course.now.cores }
     requires sliced { HaveSlices course.now slices.now }
-    requires kept { StateInvariant course.now rounds (state_of machine.old) }
+    requires kept { StateInvariant course.now rounds (state_of_machine machine.old) }
     requires spare { HasSpare rounds 1 machine.old }
     requires known { KnowLast course.now machine.old.logs.items }
-    ensures answer { Answers course.now rounds (state_of machine.old) (Step.Run c) result
-        (state_of machine.new) }
+    ensures answer { AnswersStep course.now rounds (state_of_machine machine.old) (Step.Run c) result
+        (state_of_machine machine.new) }
     ensures spare { (n : ℕ) → HasSpare rounds (n + 1) machine.old → HasSpare rounds n machine.new }
     ensures last { KnowLast course.now machine.old.logs.items → KnowLast course.now machine.new.logs.items }
 {

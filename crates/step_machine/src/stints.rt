@@ -7,8 +7,8 @@ ghost use Rattle.table_form.specs.Running.State.{CoreState};
 ghost use Rattle.table_form.specs.Running.Phases.{to_decide, to_run, phase_of};
 ghost use Rattle.table_form.specs.Running.Stints.{IsNextStint};
 ghost use Rattle.step_machine.specs.declared.core_log.CoreLog.{CoreLog as LogValue};
-ghost use Rattle.step_machine.specs.Inside.Logs.{core_of, cores_of, KnowLast};
-ghost use Rattle.step_machine.specs.Inside.MachineStates.{state_of};
+ghost use Rattle.step_machine.specs.Inside.Logs.{core_of_log, cores_of_logs, KnowLast};
+ghost use Rattle.step_machine.specs.Inside.MachineStates.{state_of_machine};
 ghost use Rattle.step_machine.specs.Inside.Worlds.{HaveSlices};
 
 use crate::core_log::CoreLog;
@@ -29,11 +29,11 @@ pub(crate) fn stint_now(
     requires few { rounds ≤ MAX_ROUNDS }
     requires core { c < course.now.cores }
     requires sliced { HaveSlices course.now slices.now }
-    requires kept { StateInvariant course.now rounds (state_of machine.now) }
+    requires kept { StateInvariant course.now rounds (state_of_machine machine.now) }
     requires known { KnowLast course.now machine.now.logs.items }
-    requires due { (core : CoreState) → slice_get (cores_of machine.now.logs.items) c ≡ Some core
+    requires due { (core : CoreState) → slice_get (cores_of_logs machine.now.logs.items) c ≡ Some core
         → phase_of rounds core ≡ to_run }
-    ensures next { (core : CoreState) → slice_get (cores_of machine.now.logs.items) c ≡ Some core
+    ensures next { (core : CoreState) → slice_get (cores_of_logs machine.now.logs.items) c ≡ Some core
         → IsNextStint course.now rounds c core result.stint }
     ensures last { (log : LogValue) → slice_get machine.now.logs.items c ≡ Some log
         → result.last ≡ last_after course.now c log.last result.stint }
@@ -56,8 +56,8 @@ pub(crate) fn stint_now(
 
 // What a core has seen that is to enter a round or to run.
 pub(crate) fn seen_by(log: &CoreLog, rounds: u32) -> u32
-    requires { (phase_of rounds (core_of log.now) ≡ to_decide)
-        ⊎ (phase_of rounds (core_of log.now) ≡ to_run) }
+    requires { (phase_of rounds (core_of_log log.now) ≡ to_decide)
+        ⊎ (phase_of rounds (core_of_log log.now) ≡ to_run) }
     ensures { log.now.seen ≡ Some result }
 {
     match log.seen {

@@ -1,6 +1,6 @@
 ghost use Rattle.std.specs.Prelude.{◌≡◌, ◌<◌, Some, length, slice_get};
-ghost use Rattle.step_machine.specs.Inside.Logs.{cores_of};
-ghost use Rattle.step_machine.specs.Inside.Marks.{Stands, made_by as made_of};
+ghost use Rattle.step_machine.specs.Inside.Logs.{cores_of_logs};
+ghost use Rattle.step_machine.specs.Inside.Marks.{IsMarkThere, made_by as made_of};
 
 use crate::core_log::CoreLog;
 use crate::mark::Mark;
@@ -27,17 +27,17 @@ pub struct Trace {
 
 impl Model for Trace {
     ghost use Rattle.step_machine.specs.Worlds.{TraceView};
-    ghost use Rattle.step_machine.specs.Inside.Logs.{cores_of};
+    ghost use Rattle.step_machine.specs.Inside.Logs.{cores_of_logs};
     ghost use Rattle.step_machine.specs.Inside.Marks.{AllStand, all_made};
 
     ghost Value = { TraceView };
 
     ghost view = { λ t. record {
-      made = all_made (cores_of t.logs.items) t.marks.items;
+      made = all_made (cores_of_logs t.logs.items) t.marks.items;
       posted = t.posted;
     } };
 
-    ghost invariant = { λ t. AllStand (cores_of t.logs.items) t.marks.items };
+    ghost invariant = { λ t. AllStand (cores_of_logs t.logs.items) t.marks.items };
 }
 
 impl Trace {
@@ -67,8 +67,8 @@ impl Trace {
 
 // What the mark refers to.
 fn made_by(logs: &[CoreLog], mark: &Mark) -> Made
-    requires { Stands (cores_of logs.now) mark.now }
-    ensures { result ≡ made_of (cores_of logs.now) mark.now }
+    requires { IsMarkThere (cores_of_logs logs.now) mark.now }
+    ensures { result ≡ made_of (cores_of_logs logs.now) mark.now }
 {
     match *mark {
         Mark::Entered { core, place } => {

@@ -5,11 +5,11 @@ ghost use Rattle.table_form.specs.Running.Courses.{FitsRounds, IsCourse};
 ghost use Rattle.table_form.specs.Running.Invariant.{StateInvariant};
 ghost use Rattle.table_form.specs.Running.Complete.{IsComplete};
 ghost use Rattle.table_form.specs.Running.State.{CoreState, opening};
-ghost use Rattle.step_machine.specs.Answers.{Answers, NamesCore};
-ghost use Rattle.step_machine.specs.Inside.Logs.{cores_of, AreFew, KnowLast, IsNew, AreNew};
+ghost use Rattle.step_machine.specs.Answers.{AnswersStep, NamesCore};
+ghost use Rattle.step_machine.specs.Inside.Logs.{cores_of_logs, AreFew, KnowLast, IsNew, AreLogsNew};
 ghost use Rattle.step_machine.specs.Inside.Marks.{AllStand, all_made};
 ghost use Rattle.step_machine.specs.Next.{IsNextStep};
-ghost use Rattle.step_machine.specs.Inside.MachineStates.{state_of, HasSpare};
+ghost use Rattle.step_machine.specs.Inside.MachineStates.{state_of_machine, HasSpare};
 ghost use Rattle.step_machine.specs.Inside.Worlds.{HaveSlices};
 ghost use Rattle.step_machine.specs.Traces.{AddsMade, AreMadeBy};
 ghost use Rattle.step_machine.specs.declared.answer.Answer.TheVariants.{Done};
@@ -45,8 +45,8 @@ pub struct World<'a> {
 impl<'a> Model for World<'a> {
     ghost use Rattle.step_machine.specs.Worlds.{WorldView};
     ghost use Rattle.step_machine.specs.Inside.Worlds.{IsWorld};
-    ghost use Rattle.step_machine.specs.Inside.Logs.{cores_of};
-    ghost use Rattle.step_machine.specs.Inside.MachineStates.{state_of};
+    ghost use Rattle.step_machine.specs.Inside.Logs.{cores_of_logs};
+    ghost use Rattle.step_machine.specs.Inside.MachineStates.{state_of_machine};
     ghost use Rattle.step_machine.specs.Inside.Marks.{all_made};
 
     ghost Value = { WorldView };
@@ -55,8 +55,8 @@ impl<'a> Model for World<'a> {
       course = w.course.now;
       rounds = w.rounds;
       spare = w.spare;
-      state = state_of w.machine;
-      made = all_made (cores_of w.machine.logs.items) w.marks.items;
+      state = state_of_machine w.machine;
+      made = all_made (cores_of_logs w.machine.logs.items) w.marks.items;
     } };
 
     ghost invariant = { λ w. IsWorld w.course.now w.slices.items w.rounds w.spare w.machine w.marks };
@@ -113,7 +113,7 @@ impl World<'_> {
     pub fn apply(&mut self, step: Step) -> Answer
         requires spare { 1 ≤ self.old.spare }
         requires core { NamesCore self.old.course step }
-        ensures answer { Answers self.old.course self.old.rounds self.old.state step result self.new.state }
+        ensures answer { AnswersStep self.old.course self.old.rounds self.old.state step result self.new.state }
         ensures made { AddsMade step result self.new.state self.old.made self.new.made }
         ensures spare { self.new.spare + 1 ≡ self.old.spare }
         ensures same { (self.new.course ≡ self.old.course) × (self.new.rounds ≡ self.old.rounds) }
@@ -210,10 +210,10 @@ fn take_step(
     requires few { rounds ≤ MAX_ROUNDS }
     requires sliced { HaveSlices course.now slices.now }
     requires core { NamesCore course.now step.now }
-    requires kept { StateInvariant course.now rounds (state_of machine.old) }
+    requires kept { StateInvariant course.now rounds (state_of_machine machine.old) }
     requires spare { HasSpare rounds 1 machine.old }
     requires known { KnowLast course.now machine.old.logs.items }
-    ensures answer { Answers course.now rounds (state_of machine.old) step.now result (state_of machine.new) }
+    ensures answer { AnswersStep course.now rounds (state_of_machine machine.old) step.now result (state_of_machine machine.new) }
     ensures spare { (n : ℕ) → HasSpare rounds (n + 1) machine.old → HasSpare rounds n machine.new }
     ensures last { KnowLast course.now machine.old.logs.items → KnowLast course.now machine.new.logs.items }
 {
@@ -229,12 +229,12 @@ fn take_step(
 fn note(marks: &mut Vec<Mark>, machine: &MachineState, step: &Step, answer: &Answer)
     requires room { length marks.old.items < vec_capacity marks.old }
     requires few { AreFew machine.now.logs.items }
-    requires makes { answer.now ≡ Done → (more : List MadeValue) × AreMadeBy step.now (state_of machine.now) more }
-    ensures made { AddsMade step.now answer.now (state_of machine.now)
-        (all_made (cores_of machine.now.logs.items) marks.old.items)
-        (all_made (cores_of machine.now.logs.items) marks.new.items) }
-    ensures stand { AllStand (cores_of machine.now.logs.items) marks.old.items
-        → AllStand (cores_of machine.now.logs.items) marks.new.items }
+    requires makes { answer.now ≡ Done → (more : List MadeValue) × AreMadeBy step.now (state_of_machine machine.now) more }
+    ensures made { AddsMade step.now answer.now (state_of_machine machine.now)
+        (all_made (cores_of_logs machine.now.logs.items) marks.old.items)
+        (all_made (cores_of_logs machine.now.logs.items) marks.new.items) }
+    ensures stand { AllStand (cores_of_logs machine.now.logs.items) marks.old.items
+        → AllStand (cores_of_logs machine.now.logs.items) marks.new.items }
     ensures room { vec_capacity marks.new ≡ vec_capacity marks.old }
     ensures one { length marks.new.items ≤ length marks.old.items + 1 }
 {
@@ -275,7 +275,7 @@ fn new_slices(alloc: Global, course: &Course) -> Result<Vec<CoreSlices>, NoMemor
 }
 
 fn new_logs(alloc: Global, cores: u32, rounds: u32, turns: u32) -> Result<Vec<CoreLog>, NoMemory>
-    ensures { IfOk result (λ logs. AreNew cores rounds turns logs.items) }
+    ensures { IfOk result (λ logs. AreLogsNew cores rounds turns logs.items) }
 {
     let mut logs = Vec::with_capacity(alloc, cores as usize)?;
     'filling: while (logs.len() as u32) < cores {

@@ -4,10 +4,10 @@ use Rattle.tab_core.specs.declared.TheConstants.{ROUND}
 use Rattle.table_form.specs.declared.segment.Segment.{Segment}
 use Rattle.table_form.specs.Tables.Rows.{RisesTo}
 use Rattle.table_form.proofs.Search.{Parts, ends_rise, some_segment}
-use Rattle.stint_text.specs.Inside.Near.{Holds}
+use Rattle.stint_text.specs.Inside.Near.{CoversTick}
 
 -- as ends rise, all segments before it end at or before the tick, and all others after it
-pub parts_here : (ss : List Segment) (tick i : ℕ) → RisesTo 0 ss ROUND → Holds ss i tick → Parts ss tick i
+pub parts_here : (ss : List Segment) (tick i : ℕ) → RisesTo 0 ss ROUND → CoversTick ss i tick → Parts ss tick i
 parts_here ss tick i rises here = record {
   at_most = (let lt = here.inside in omega arith);
   passed = λ j d lt.
@@ -23,7 +23,7 @@ parts_here ss tick i rises here = record {
 
 -- where bisection stops is such a place
 pub holds_parted : (ss : List Segment) (tick i : ℕ) → RisesTo 0 ss ROUND → tick < ROUND → Parts ss tick i
-    → Holds ss i tick
+    → CoversTick ss i tick
 holds_parted ss tick i rises lt parts = record {
   inside = some_segment ss tick i rises lt parts;
   begun = λ j d is. parts.passed j d (omega arith);

@@ -2,7 +2,7 @@ ghost use Rattle.std.specs.Prelude.{◌≡◌, ◌<◌, ◌≤◌, Some, length,
 ghost use Rattle.tab_core.specs.declared.TheConstants.{ROUND};
 ghost use Rattle.stint_text.specs.StintLine.{first_owner};
 ghost use Rattle.table_form.specs.Tables.Rows.{RisesTo, cells_from};
-ghost use Rattle.stint_text.specs.Inside.Near.{Holds};
+ghost use Rattle.stint_text.specs.Inside.Near.{CoversTick};
 
 use tab_core::{CoreNo, ROUND, Stint, VcpuNo};
 use table_form::{Course, Segment};
@@ -43,7 +43,7 @@ fn owner_near(segments: &[Segment], tick: u32, near: usize) -> Found
 fn place_near(segments: &[Segment], tick: u32, near: usize) -> usize
     requires rises { RisesTo 0 segments.now ROUND }
     requires in_round { tick < ROUND }
-    ensures { Holds segments.now result tick }
+    ensures { CoversTick segments.now result tick }
 {
     if holds(segments, near, tick) {
         return near;
@@ -57,7 +57,7 @@ fn place_near(segments: &[Segment], tick: u32, near: usize) -> usize
 
 // The segment at the place holds the tick.
 fn holds(segments: &[Segment], place: usize, tick: u32) -> bool
-    ensures { result ≡ true → Holds segments.now place tick }
+    ensures { result ≡ true → CoversTick segments.now place tick }
 {
     if place >= segments.len() || segments[place].end <= tick {
         return false;

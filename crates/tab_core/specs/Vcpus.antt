@@ -17,5 +17,5 @@ abbrev pub runnable_at_first : List Vcpu → List Bool
 runnable_at_first vcpus = set_where (λ vcpu. vcpu.runnable) vcpus
 
 -- the set of the vCPUs that run in their slots alone
-abbrev pub capped_of : List Vcpu → List Bool
-capped_of vcpus = set_where (λ vcpu. vcpu.capped) vcpus
+abbrev pub capped_set : List Vcpu → List Bool
+capped_set vcpus = set_where (λ vcpu. vcpu.capped) vcpus

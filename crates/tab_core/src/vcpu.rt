@@ -1,6 +1,6 @@
 ghost use Rattle.std.specs.Prelude.{◌≡◌, ◌<◌, ◌≤◌, length, slice_set};
 ghost use Rattle.tab_core.specs.declared.TheConstants.{MAX_VCPUS};
-ghost use Rattle.tab_core.specs.Vcpus.{HaveDistinctNames, capped_of, runnable_at_first};
+ghost use Rattle.tab_core.specs.Vcpus.{HaveDistinctNames, capped_set, runnable_at_first};
 
 use crate::name::Name;
 use crate::number::VcpuNo;
@@ -71,7 +71,7 @@ impl Vcpus {
 
     /// The vCPUs that run in their slots alone.
     pub fn capped(&self) -> VcpuSet
-        ensures { result ≡ capped_of self.now }
+        ensures { result ≡ capped_set self.now }
     {
         let mut set = VcpuSet::empty();
         for number in 0..self.items.len() {

@@ -43,7 +43,7 @@ Finished old new (put.Took n) = (n ≡ 0) × AllSettled new
 Finished old new put.Failed = StaysSettled old.settled new.settled × Rose old.faults new.faults
 
 -- some prefix of the text was taken
-pub record Begun (old new : Option (List ℕ)) (text : List ℕ) : Type 0 where
+pub record TookPrefix (old new : Option (List ℕ)) (text : List ℕ) : Type 0 where
   pub front : List ℕ
   pub rest : List ℕ
   pub whole : text ≡ front ++ rest
@@ -63,7 +63,7 @@ pub record Writes {U : Type 0} (old new : SinkView) (text : List ℕ) (result : 
   pub later : old.faults ≤ new.faults
   pub bytes : MatchResult result
       (λ _. Appends old.taken new.taken text)
-      (λ _. Begun old.taken new.taken text × Rose old.faults new.faults)
+      (λ _. TookPrefix old.taken new.taken text × Rose old.faults new.faults)
   pub fits : MatchResult result (λ _. HadRoom old new text) (λ _. LacksRoom old text)
 
 -- a prefix of the text was written, and this is left

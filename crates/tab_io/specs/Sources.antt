@@ -17,11 +17,11 @@ Gave old new into got.End = Keeps old.rest new.rest × IsAtEnd new.rest
 Gave old new into got.Failed = Keeps old.rest new.rest × Rose old.faults new.faults
 
 -- how reading all ended, after these bytes: at the end, at a fault, or one byte past the limit
-abbrev pub Ended : SourceView → SourceView → ℕ → List ℕ → Result (Vec ℕ Global) ReadAll → Type 0
-Ended old new limit bytes (Ok v) = (v.items ≡ bytes) × (length bytes ≤ limit) × IsAtEnd new.rest
-Ended old new limit bytes (Err read.ReadFault) = (length bytes ≤ limit) × Rose old.faults new.faults
-Ended old new limit bytes (Err (read.TooLong at)) = (at ≡ limit) × (length bytes ≡ limit + 1)
-Ended old new limit bytes (Err read.NoMemory) = ⊤
+abbrev pub EndsReading : SourceView → SourceView → ℕ → List ℕ → Result (Vec ℕ Global) ReadAll → Type 0
+EndsReading old new limit bytes (Ok v) = (v.items ≡ bytes) × (length bytes ≤ limit) × IsAtEnd new.rest
+EndsReading old new limit bytes (Err read.ReadFault) = (length bytes ≤ limit) × Rose old.faults new.faults
+EndsReading old new limit bytes (Err (read.TooLong at)) = (at ≡ limit) × (length bytes ≡ limit + 1)
+EndsReading old new limit bytes (Err read.NoMemory) = ⊤
 
 -- the source gave these bytes, and reading ended after them; a sound source is read without a fault
 pub record ReadsAll (old new : SourceView) (limit : ℕ) (result : Result (Vec ℕ Global) ReadAll)
@@ -29,7 +29,7 @@ pub record ReadsAll (old new : SourceView) (limit : ℕ) (result : Result (Vec �
   pub bytes : List ℕ
   pub consumed : Consumes old.rest new.rest bytes
   pub later : old.faults ≤ new.faults
-  pub ended : Ended old new limit bytes result
+  pub ended : EndsReading old new limit bytes result
   pub sound : old.sound ≡ true → IsErrOf result read.ReadFault → ⊥
 
 -- a sound source stays sound, and its read doesn't fail

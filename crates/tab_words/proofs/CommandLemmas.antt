@@ -7,7 +7,7 @@ use Rattle.std.proofs.Math.Seq.{take-append_seam, take-append-add}
 use Rattle.std.proofs.lemmas.Fmt.{decimal_injective}
 use Rattle.std.specs.declared.alloc.Global.{Global}
 use Rattle.tab_core.specs.declared.TheConstants.{MAX_CORES, MAX_ROUNDS, MAX_VCPUS}
-use Rattle.tab_words.specs.Commands.{IsBegun, IsCommand, IsFaultAt, IsGenerable, IsNoCommand, IsRoundCount, mode_words, texts}
+use Rattle.tab_words.specs.Commands.{BeginsCommand, IsCommand, IsFaultAt, IsGenerable, IsNoCommand, IsRoundCount, mode_words, texts}
 use Rattle.tab_words.specs.Inside.Readings.{BeginsWithNumber, IsReading}
 use Rattle.tab_words.specs.Numbers.{Spells}
 use Rattle.tab_words.specs.declared.command.Command.{Command}
@@ -20,7 +20,7 @@ use Rattle.tab_words.proofs.NumberLemmas.{spelled_once}
 -- ---- any grammar
 
 -- a prefix of words that begin a command begins it too
-begun_front : (front back : List (List ℕ)) → IsBegun (front ++ back) → IsBegun front
+begun_front : (front back : List (List ℕ)) → BeginsCommand (front ++ back) → BeginsCommand front
 begun_front front back begun = record {
   command = begun.command;
   rest = back ++ begun.rest;
@@ -29,7 +29,7 @@ begun_front front back begun = record {
 
 -- each prefix of a command begins it
 begun_by_command : (words : List (List ℕ)) (command : Command) (n : ℕ) → IsCommand words command
-    → IsBegun (take n words)
+    → BeginsCommand (take n words)
 begun_by_command words command n is = record {
   command = command;
   rest = drop n words;
@@ -62,7 +62,7 @@ not_before words place later fault other less =
     elim fault.fault [
       | inl stops ↦
           stops.1 (begun_front (take (place + 1) words) (drop (place + 1) (take later words))
-          (subst IsBegun longer other.before))
+          (subst BeginsCommand longer other.before))
       | inr ends ↦ absurd (omega arith)
     ]
 
@@ -78,13 +78,13 @@ abbrev GoesNotOn : List (List ℕ) → List ℕ → Type 0
 GoesNotOn front word = (command : Command) (rest : List (List ℕ)) → IsCommand (front ++ word ∷ rest) command → ⊥
 
 -- a word with which no command goes on is the fault of words that begin one before it
-fault_at_word : (front : List (List ℕ)) (word : List ℕ) (rest : List (List ℕ)) → IsBegun front
+fault_at_word : (front : List (List ℕ)) (word : List ℕ) (rest : List (List ℕ)) → BeginsCommand front
     → GoesNotOn front word → IsFaultAt (front ++ word ∷ rest) (length front)
 fault_at_word front word rest begun none =
     let up_to : take (length front + 1) (front ++ word ∷ rest) ≡ front ++ word ∷ [] =
     take-append-add front (word ∷ rest) 1 in
     record {
-      before = subst IsBegun (sym (take-append_seam front (word ∷ rest))) begun;
+      before = subst BeginsCommand (sym (take-append_seam front (word ∷ rest))) begun;
       fault = inl (
         omega (arith, length-append front (word ∷ rest)),
         λ on. none on.command on.rest (subst (λ ws. IsCommand ws on.command)
@@ -93,9 +93,9 @@ fault_at_word front word rest begun none =
     }
 
 -- words that begin a command and are none want another word
-fault_at_end : (front : List (List ℕ)) → IsBegun front → IsNoCommand front → IsFaultAt front (length front)
+fault_at_end : (front : List (List ℕ)) → BeginsCommand front → IsNoCommand front → IsFaultAt front (length front)
 fault_at_end front begun none = record {
-  before = subst IsBegun (sym (take_all (length front) front (omega arith))) begun;
+  before = subst BeginsCommand (sym (take_all (length front) front (omega arith))) begun;
   fault = inr (refl, none);
 }
 
@@ -106,7 +106,7 @@ GoesOnWithNumber front least most = (command : Command) (rest : List (List ℕ))
 
 -- where no number in the range follows words that only such a number goes on from, the fault is
 -- there
-fault_at_number : (front words : List (List ℕ)) (least most : ℕ) → IsBegun front
+fault_at_number : (front words : List (List ℕ)) (least most : ℕ) → BeginsCommand front
     → GoesOnWithNumber front least most → (BeginsWithNumber least most words → ⊥)
     → IsFaultAt (front ++ words) (length front)
 fault_at_number front [] least most begun shape none =
@@ -159,7 +159,7 @@ reading_end front command [] (Ok read) is none reads =
 reading_end front command (word ∷ rest) (Ok read) is none reads = absurd cc
 reading_end front command [] (Err usage) is none reads = absurd (omega arith)
 reading_end front command (word ∷ rest) (Err usage) is none reads =
-    let begun : IsBegun front = record {
+    let begun : BeginsCommand front = record {
       command = command;
       rest = [];
       whole = subst (λ ws. IsCommand ws command)

@@ -9,7 +9,7 @@ use Rattle.std.specs.List.{All, concat, onto_first, slice_split}
 use Rattle.memchr.specs.Find.{NoneBefore, Nowhere, Passes, is_byte}
 use Rattle.tab_words.specs.Lines.{raw_lines_of}
 use Rattle.tab_words.specs.Sections.{is_separator, sections_of}
-use Rattle.tab_words.specs.Inside.Fronts.{behind}
+use Rattle.tab_words.specs.Inside.Fronts.{sections_after}
 use Rattle.tab_words.proofs.CutLemmas.{front_lacks}
 use Rattle.tab_words.proofs.LineLemmas.{raw_lines_of-feed}
 use Rattle.tab_words.proofs.SectionLemmas.{behind-behind, map_concat-onto_first, sections_of-behind, sections_of-row}
@@ -23,38 +23,38 @@ other_first byte row other =
 -- a byte that joins a line, where neither begins as a separator does
 joined : (byte first : ℕ) (row : List ℕ) (rows : List (List ℕ)) → byte ≢ 37 → first ≢ 37
     → map concat (slice_split is_separator ((byte ∷ first ∷ row) ∷ rows))
-    ≡ behind (byte ∷ []) (map concat (slice_split is_separator ((first ∷ row) ∷ rows)))
+    ≡ sections_after (byte ∷ []) (map concat (slice_split is_separator ((first ∷ row) ∷ rows)))
 joined byte first row rows other plain =
     let parts = slice_split is_separator rows in
     rw (other_first byte (first ∷ row) other, other_first first row plain)
     (map_concat-onto_first (byte ∷ first ∷ row) parts
     ∙ sym (behind-behind (byte ∷ []) (first ∷ row) (map concat parts))
-    ∙ sym (ap (behind (byte ∷ [])) (map_concat-onto_first (first ∷ row) parts)))
+    ∙ sym (ap (sections_after (byte ∷ [])) (map_concat-onto_first (first ∷ row) parts)))
 
 -- a byte that joins a line, where the lines after it are given by their first byte and what follows
 -- that
 joined_onto : (byte first : ℕ) (rows : List (List ℕ)) → byte ≢ 37 → first ≢ 37
     → map concat (slice_split is_separator (onto_first byte (onto_first first rows)))
-    ≡ behind (byte ∷ []) (map concat (slice_split is_separator (onto_first first rows)))
+    ≡ sections_after (byte ∷ []) (map concat (slice_split is_separator (onto_first first rows)))
 joined_onto byte first [] other plain = joined byte first [] [] other plain
 joined_onto byte first (row ∷ rows) other plain = joined byte first row rows other plain
 
 -- a byte within a line, before one that doesn't begin as a separator does
 plain_next : (byte first : ℕ) (more : List ℕ) → byte ≢ 10 → byte ≢ 37 → first ≢ 37
-    → sections_of (byte ∷ first ∷ more) ≡ behind (byte ∷ []) (sections_of (first ∷ more))
+    → sections_of (byte ∷ first ∷ more) ≡ sections_after (byte ∷ []) (sections_of (first ∷ more))
 unfolding raw_lines_of sections_of
 plain_next byte first more within other plain =
     let no : (byte == 10) ≡ false = grind (arith, nat_tests) in
     let rows = λ (b : Bool). if b then (first ∷ []) ∷ raw_lines_of more else onto_first first (raw_lines_of more) in
     rw no (elim (first == 10) as (λ b. map concat (slice_split is_separator (onto_first byte (rows b)))
-    ≡ behind (byte ∷ []) (map concat (slice_split is_separator (rows b)))) [
+    ≡ sections_after (byte ∷ []) (map concat (slice_split is_separator (rows b)))) [
       | true ↦ joined byte first [] (raw_lines_of more) other plain
       | false ↦ joined_onto byte first (raw_lines_of more) other plain
     ])
 
 -- a line feed that is a whole line
 plain_feed : (byte : ℕ) (bytes : List ℕ) → byte ≡ 10
-    → sections_of (byte ∷ bytes) ≡ behind (byte ∷ []) (sections_of bytes)
+    → sections_of (byte ∷ bytes) ≡ sections_after (byte ∷ []) (sections_of bytes)
 plain_feed byte bytes feed =
     sections_of-row (byte ∷ bytes) (byte ∷ []) bytes (raw_lines_of-feed byte bytes feed)
     (other_first byte [] (λ is. absurd (omega arith)))
@@ -66,7 +66,7 @@ lone_byte byte is = rw is refl
 
 -- a byte that is no `%`, where it ends its line or none follows it
 plain_byte : (byte : ℕ) (bytes : List ℕ) (feed : Bool) → (byte == 10) ≡ feed → byte ≢ 37
-    → get_or bytes 0 0 ≢ 37 → sections_of (byte ∷ bytes) ≡ behind (byte ∷ []) (sections_of bytes)
+    → get_or bytes 0 0 ≢ 37 → sections_of (byte ∷ bytes) ≡ sections_after (byte ∷ []) (sections_of bytes)
 plain_byte byte bytes true is other plain = plain_feed byte bytes (eqb-true byte 10 is)
 plain_byte byte [] false is other plain =
     sections_of-row (byte ∷ []) (byte ∷ []) [] (lone_byte byte is) (other_first byte [] other)
@@ -75,20 +75,20 @@ plain_byte byte (first ∷ more) false is other plain =
 
 -- a prefix without `%` belongs to the first section, where no `%` follows it
 plain_front : (front rest : List ℕ) → All (λ byte. byte ≢ 37) front → (0 < length front → get_or rest 0 0 ≢ 37)
-    → sections_of (front ++ rest) ≡ behind front (sections_of rest)
+    → sections_of (front ++ rest) ≡ sections_after front (sections_of rest)
 plain_front [] rest all follows = sections_of-behind rest
 plain_front (byte ∷ []) rest all follows =
     plain_byte byte rest (byte == 10) refl (all 0 0 (omega arith)) (follows (omega arith))
 plain_front (byte ∷ next ∷ front) rest all follows =
     plain_byte byte (next ∷ (front ++ rest)) (byte == 10) refl (all 0 0 (omega arith)) (all 1 0 (omega arith))
-    ∙ ap (behind (byte ∷ [])) (plain_front (next ∷ front) rest (λ k d low. all (suc k) d (omega arith))
+    ∙ ap (sections_after (byte ∷ [])) (plain_front (next ∷ front) rest (λ k d low. all (suc k) d (omega arith))
     (λ some. follows (omega arith)))
     ∙ behind-behind (byte ∷ []) (next ∷ front) (sections_of rest)
 
 -- the prefix up to a place belongs to the first section, where it has no `%` and none follows it
 plain_take : (bytes : List ℕ) (n : ℕ) → n ≤ length bytes → ((k : ℕ) → k < n → get_or bytes k 0 ≢ 37)
     → (0 < n → get_or (drop n bytes) 0 0 ≢ 37)
-    → sections_of bytes ≡ behind (take n bytes) (sections_of (drop n bytes))
+    → sections_of bytes ≡ sections_after (take n bytes) (sections_of (drop n bytes))
 plain_take bytes n within none follows =
     ap sections_of (sym (take-append-drop n bytes))
     ∙ plain_front (take n bytes) (drop n bytes) (front_lacks bytes n 37 within none)
@@ -96,14 +96,14 @@ plain_take bytes n within none follows =
 
 -- a text without `%`
 pub plain_all : (bytes : List ℕ) → Nowhere (Passes (is_byte 37) bytes) 0 (length bytes)
-    → sections_of bytes ≡ behind (take (length bytes) bytes) (sections_of (drop (length bytes) bytes))
+    → sections_of bytes ≡ sections_after (take (length bytes) bytes) (sections_of (drop (length bytes) bytes))
 plain_all bytes none =
     plain_take bytes (length bytes) (omega arith) (λ k low is. none k (omega arith) low (eq-eqb _ _ is))
     (λ some. rw (drop_all (length bytes) bytes (omega arith)) (λ is. absurd (omega (arith, is))))
 
 -- a text up to the byte before its first `%`
 pub plain_before : (bytes : List ℕ) (place : ℕ) → NoneBefore (Passes (is_byte 37) bytes) 0 (length bytes) place
-    → sections_of bytes ≡ behind (take (place - 1) bytes) (sections_of (drop (place - 1) bytes))
+    → sections_of bytes ≡ sections_after (take (place - 1) bytes) (sections_of (drop (place - 1) bytes))
 plain_before bytes place first =
     let none : (k : ℕ) → k < place → get_or bytes k 0 ≢ 37 =
     λ k low is. first.before k (omega arith) low (eq-eqb _ _ is) in
@@ -112,10 +112,10 @@ plain_before bytes place first =
 
 -- the loop goes on after a line, and after the plain bytes that follow it
 pub section_skip : (all bytes row rest : List ℕ) (at more : ℕ) → bytes ≡ drop at all → bytes ≡ row ++ rest
-    → sections_of all ≡ behind (take (at + length row) all) (sections_of (drop (at + length row) all))
-    → sections_of rest ≡ behind (take more rest) (sections_of (drop more rest))
+    → sections_of all ≡ sections_after (take (at + length row) all) (sections_of (drop (at + length row) all))
+    → sections_of rest ≡ sections_after (take more rest) (sections_of (drop more rest))
     → sections_of all
-    ≡ behind (take (at + (length row + more)) all) (sections_of (drop (at + (length row + more)) all))
+    ≡ sections_after (take (at + (length row + more)) all) (sections_of (drop (at + (length row + more)) all))
 section_skip all bytes row rest at more from whole before skipped =
     let next = at + length row in
     let here : drop next all ≡ rest =
@@ -126,9 +126,9 @@ section_skip all bytes row rest at more from whole before skipped =
     let back : drop more rest ≡ drop (next + more) all =
     ap (drop more) (sym here) ∙ drop-drop more next all in
     let far : next + more ≡ at + (length row + more) = omega arith in
-    before ∙ ap (λ r. behind (take next all) (sections_of r)) here
-    ∙ ap (behind (take next all)) skipped
+    before ∙ ap (λ r. sections_after (take next all) (sections_of r)) here
+    ∙ ap (sections_after (take next all)) skipped
     ∙ behind-behind (take next all) (take more rest) (sections_of (drop more rest))
-    ∙ ap (λ f. behind f (sections_of (drop more rest))) front
-    ∙ ap (λ b. behind (take (next + more) all) (sections_of b)) back
-    ∙ ap (λ n. behind (take n all) (sections_of (drop n all))) far
+    ∙ ap (λ f. sections_after f (sections_of (drop more rest))) front
+    ∙ ap (λ b. sections_after (take (next + more) all) (sections_of b)) back
+    ∙ ap (λ n. sections_after (take n all) (sections_of (drop n all))) far

@@ -5,7 +5,7 @@ use Rattle.std.specs.List.{concat, onto_first, slice_split}
 use Rattle.std.specs.Prelude.{slice_index_or}
 use Rattle.tab_words.specs.Lines.{raw_lines_of}
 use Rattle.tab_words.specs.Sections.{is_separator, sections_of}
-use Rattle.tab_words.specs.Inside.Fronts.{behind}
+use Rattle.tab_words.specs.Inside.Fronts.{sections_after}
 use Rattle.tab_words.proofs.SectionLemmas.{map_concat-onto_first}
 
 -- a byte that joins a line makes it longer by one
@@ -32,7 +32,7 @@ rows_size (byte ∷ bytes) = rows_more byte bytes (byte == 10) refl (rows_size b
 
 -- the sections that begin with this row, of which none was longer than n
 extended : (row : List ℕ) (parts : List (List ℕ)) (n k : ℕ) → ((j : ℕ) → length (get_or parts j []) ≤ n)
-    → length (get_or (behind row parts) k []) ≤ length row + n
+    → length (get_or (sections_after row parts) k []) ≤ length row + n
 extended row [] n zero short = omega arith
 extended row [] n (suc k) short = omega arith
 extended row (part ∷ parts) n zero short = omega (arith, length-append row part, short 0)

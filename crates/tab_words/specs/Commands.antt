@@ -46,7 +46,7 @@ IsCommand words Help = words ≡ codes "--help" ∷ []
 IsCommand words Version = words ≡ codes "--version" ∷ []
 
 -- some command begins with these words
-pub record IsBegun (words : List (List ℕ)) : Type 0 where
+pub record BeginsCommand (words : List (List ℕ)) : Type 0 where
   pub command : Command
   pub rest : List (List ℕ)
   pub whole : IsCommand (words ++ rest) command
@@ -58,6 +58,6 @@ IsNoCommand words = (command : Command) → IsCommand words command → ⊥
 -- the place of the fault, from 0: a command begins with the words before it, and with the word at it
 -- none does, or the words end there and are no command
 pub record IsFaultAt (words : List (List ℕ)) (place : ℕ) : Type 0 where
-  pub before : IsBegun (take place words)
-  pub fault : ((place < length words) × (IsBegun (take (place + 1) words) → ⊥))
+  pub before : BeginsCommand (take place words)
+  pub fault : ((place < length words) × (BeginsCommand (take (place + 1) words) → ⊥))
       ⊎ ((place ≡ length words) × IsNoCommand words)

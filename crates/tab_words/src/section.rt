@@ -1,6 +1,6 @@
 ghost use Rattle.std.specs.Prelude.{◌≡◌, ◌+◌, ◌^◌, ◌<◌, ◌≤◌, [], ◌∷◌, drop, length, take, IfSome, MatchOption, slice_index_or};
 ghost use Rattle.tab_words.specs.Sections.{is_separator, sections_of};
-ghost use Rattle.tab_words.specs.Inside.Fronts.{behind};
+ghost use Rattle.tab_words.specs.Inside.Fronts.{sections_after};
 
 use crate::line::first_line;
 use memchr::memchr;
@@ -90,7 +90,7 @@ fn first_section(bytes: &[u8]) -> (&[u8], Option<&[u8]>)
 fn plain_length(bytes: &[u8]) -> usize
     ensures within { result ≤ length bytes.now }
     ensures sections { sections_of bytes.now
-        ≡ behind (take result bytes.now) (sections_of (drop result bytes.now)) }
+        ≡ sections_after (take result bytes.now) (sections_of (drop result bytes.now)) }
 {
     match memchr(b'%', bytes) {
         Some(place) => place.saturating_sub(1),

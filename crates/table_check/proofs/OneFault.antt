@@ -8,7 +8,7 @@ use Rattle.table_form.specs.Tables.Rows.{Row}
 use Rattle.table_form.specs.Tables.Serves.{Apart, supply}
 use Rattle.table_check.specs.Clashes.{IsClash, IsFirstClash}
 use Rattle.table_check.specs.Faults.{AreGood, HasCheckFault}
-use Rattle.table_check.specs.Shapes.{HaveGoodShapes, IsFirstBad, bad_at, rows_of}
+use Rattle.table_check.specs.Shapes.{HaveGoodShapes, IsFirstBadShape, bad_at, rows_of}
 use Rattle.table_check.specs.Shortages.{IsFirstShort, IsShort}
 use Rattle.table_check.specs.declared.fault.CheckFault.{CheckFault}
 use Rattle.table_check.specs.declared.fault.CheckFault.TheVariants.{BadShape, Twice, Short, NoMemory}
@@ -18,7 +18,7 @@ both_low : (a b : ℕ) → a ≤ b → b ≤ a → a ≡ b
 both_low a b le ge = omega arith
 
 -- a bad shape excludes the faults that come after good ones
-bad_not_good : (raw : List (List Segment)) (core place : ℕ) → IsFirstBad raw core place
+bad_not_good : (raw : List (List Segment)) (core place : ℕ) → IsFirstBadShape raw core place
     → HaveGoodShapes raw → ⊥
 bad_not_good raw core place bad good = none-some place (sym (good core) ∙ bad.bad)
 
@@ -30,14 +30,14 @@ clash_not_apart rows v x c d first apart =
     omega arith
 
 -- a lowest core with a bad shape is no higher than another such
-one_bad_core : (raw : List (List Segment)) (c p d q : ℕ) → IsFirstBad raw c p → IsFirstBad raw d q → c ≤ d
+one_bad_core : (raw : List (List Segment)) (c p d q : ℕ) → IsFirstBadShape raw c p → IsFirstBadShape raw d q → c ≤ d
 one_bad_core raw c p d q a b = elim (cases_lt d c) [
   | inl lt ↦ absurd (none-some q (sym (a.lowest d lt) ∙ b.bad))
   | inr le ↦ le
 ]
 
 -- two lowest cores with a bad shape are one, and so are the places
-one_bad : (raw : List (List Segment)) (c p d q : ℕ) → IsFirstBad raw c p → IsFirstBad raw d q
+one_bad : (raw : List (List Segment)) (c p d q : ℕ) → IsFirstBadShape raw c p → IsFirstBadShape raw d q
     → BadShape c p ≡ BadShape d q
 one_bad raw c p d q a b =
     let core : c ≡ d = both_low c d (one_bad_core raw c p d q a b) (one_bad_core raw d q c p b a) in

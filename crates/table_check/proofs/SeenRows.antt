@@ -14,7 +14,7 @@ use Rattle.table_form.specs.Tables.Serves.{Apart, Serves, cell_of, cells_within,
 use Rattle.table_check.specs.Faults.{AreGood}
 use Rattle.table_check.specs.Seen.{HaveSeen, Seen}
 use Rattle.table_check.specs.Shapes.{HaveGoodShapes, bad_in, rows_of}
-use Rattle.table_check.specs.Inside.Counters.{AreAtMost, CountSupply, GrowBy, HaveRoom}
+use Rattle.table_check.specs.Inside.Counters.{AreAtMost, CountSupply, CountersHaveRoom, GrowBy}
 use Rattle.table_check.specs.Inside.Marks.{AreMarked, KeepsMarks, MarksRow}
 use Rattle.table_check.specs.Inside.Parts.{IsShortageOf}
 use Rattle.table_check.specs.declared.fault.CheckFault.TheVariants.{Short}
@@ -123,7 +123,7 @@ one_more_seen tasks raw ss old marks counters good rises kept row grown seen =
 
 -- fewer rows than a host has cores leave room for one more
 pub room_if_few : (tasks : List (Option Periodic)) (count : ℕ) (counters : List ℕ) → count < MAX_CORES
-    → HaveRoom tasks count counters → AreAtMost tasks (2 ^ 32 - 1 - 2 * ROUND) counters
+    → CountersHaveRoom tasks count counters → AreAtMost tasks (2 ^ 32 - 1 - 2 * ROUND) counters
 room_if_few tasks count counters few room v k period of =
     let most = room.most v k period of in
     omega arith
@@ -131,7 +131,7 @@ room_if_few tasks count counters few room v k period of =
 -- the counters have no more than one row more can give
 pub room_more : (tasks : List (Option Periodic)) (count : ℕ) (row : Row) (old new : List ℕ)
     → length new ≡ length old → GrowBy tasks (λ v. cells_within v row) old new
-    → HaveRoom tasks count old → HaveRoom tasks (count + 1) new
+    → CountersHaveRoom tasks count old → CountersHaveRoom tasks (count + 1) new
 room_more tasks count row old new same grown room = record {
   few = room.few;
   size = same ∙ room.size;

@@ -5,7 +5,7 @@ use Rattle.tab_core.specs.declared.periodic.Periodic.{Periodic}
 use Rattle.table_form.specs.Tables.Serves.{Apart, Serves}
 use Rattle.table_form.specs.declared.segment.Segment.{Segment}
 use Rattle.table_check.specs.Clashes.{IsFirstClash}
-use Rattle.table_check.specs.Shapes.{HaveGoodShapes, IsFirstBad, rows_of}
+use Rattle.table_check.specs.Shapes.{HaveGoodShapes, IsFirstBadShape, rows_of}
 use Rattle.table_check.specs.Shortages.{IsFirstShort}
 use Rattle.table_check.specs.declared.fault.CheckFault.{CheckFault}
 use Rattle.table_check.specs.declared.fault.CheckFault.TheVariants.{BadShape, Twice, Short, NoMemory}
@@ -19,7 +19,7 @@ pub record AreGood (tasks : List (Option Periodic)) (raw : List (List Segment)) 
 
 -- the first fault of the tables
 abbrev pub HasCheckFault : List (Option Periodic) → List (List Segment) → CheckFault → Type 0
-HasCheckFault tasks raw (BadShape core place) = IsFirstBad raw core place
+HasCheckFault tasks raw (BadShape core place) = IsFirstBadShape raw core place
 HasCheckFault tasks raw (Twice v tick core other) = HaveGoodShapes raw
     × IsFirstClash (rows_of raw) v tick core other
 HasCheckFault tasks raw (Short v period_no got cost) =

@@ -24,7 +24,7 @@ abbrev pub HaveGoodShapes : List (List Segment) → Type 0
 HaveGoodShapes raw = (core : ℕ) → bad_at raw core ≡ None
 
 -- the lowest core whose segments make no row, and the place of its first bad end
-pub record IsFirstBad (raw : List (List Segment)) (core place : ℕ) : Type 0 where
+pub record IsFirstBadShape (raw : List (List Segment)) (core place : ℕ) : Type 0 where
   pub bad : bad_at raw core ≡ Some place
   pub lowest : (lower : ℕ) → lower < core → bad_at raw lower ≡ None
 

@@ -26,13 +26,13 @@ pub struct RowChecks<'a> {
 
 impl<'a> Model for RowChecks<'a> {
     ghost use Rattle.table_check.specs.Seen.{Seen};
-    ghost use Rattle.table_check.specs.Inside.Counters.{HaveRoom};
+    ghost use Rattle.table_check.specs.Inside.Counters.{CountersHaveRoom};
 
     ghost Value = { Seen };
 
     ghost view = { λ c. record { tasks = c.tasks.now; marks = c.marks.items; counters = c.counters.items } };
 
-    ghost invariant = { λ c. HaveRoom c.tasks.now c.taken c.counters.items };
+    ghost invariant = { λ c. CountersHaveRoom c.tasks.now c.taken c.counters.items };
 }
 
 impl<'a> RowChecks<'a> {

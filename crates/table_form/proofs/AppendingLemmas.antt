@@ -2,7 +2,7 @@
 use Rattle.std.proofs.Common.{◌≡◌, ◌≢◌, ℕ, ◌+◌, ◌-◌, ◌<◌, ◌≤◌, List, [], ◌∷◌, ◌++◌, length, map, set, replicate, Option, refl, ap, subst, sym, ◌∙◌, ◌⊎◌, inl, inr, arith, append_assoc, length-append}
 use Rattle.std.proofs.Math.Seq.{set-append_seam}
 use Rattle.std.proofs.lemmas.List.{append-nil, length-map, map-append}
-use Rattle.table_form.specs.Inside.Appending.{EndsWith}
+use Rattle.table_form.specs.Inside.Appending.{EndsWithOwner}
 use Rattle.table_form.specs.Tables.Segments.{put_before, AreMaximal, BeginsOther, SegmentView, put_front, segment_view}
 use Rattle.table_form.specs.Tables.Rows.{cells_from}
 use Rattle.table_form.specs.declared.segment.Segment.{Segment}
@@ -136,7 +136,7 @@ set_last ss xs t i s e last =
     ∙ map-append segment_view one.front (s ∷ []) ∙ ap (λ us. us ++ segment_view s ∷ []) one.first
 
 -- where the last isn't of the next one's owner, that comes after it
-pub appends : (out : List SegmentView) (s : SegmentView) → (EndsWith out s.owner → ⊥)
+pub appends : (out : List SegmentView) (s : SegmentView) → (EndsWithOwner out s.owner → ⊥)
     → out ++ s ∷ [] ≡ put_before out (s ∷ [])
 appends [] s other = refl
 appends (o ∷ out) s other =
@@ -153,14 +153,14 @@ appends (o ∷ out) s other =
         (record { before = xs; last = t; is = is; same = same_first t.owner s [] with }))
 
 -- the next segment takes the last one's place where the two have one owner
-pub replaces : (out : List SegmentView) (s : SegmentView) (with : EndsWith out s.owner)
+pub replaces : (out : List SegmentView) (s : SegmentView) (with : EndsWithOwner out s.owner)
     → with.before ++ s ∷ [] ≡ put_before out (s ∷ [])
 replaces out s with =
     ap (λ ts. with.before ++ ts) (sym (front_joins with.last s [] with.same)) ∙ sym
     (before_last with.before with.last (s ∷ [])) ∙ ap (λ ts. put_before ts (s ∷ [])) (sym with.is)
 
 -- an end has a last one
-pub some_end : (ss : List Segment) (o : Option ℕ) → EndsWith (map segment_view ss) o → 1 ≤ length ss
+pub some_end : (ss : List Segment) (o : Option ℕ) → EndsWithOwner (map segment_view ss) o → 1 ≤ length ss
 some_end ss o with = omega (
   arith,
   length-map ss segment_view,

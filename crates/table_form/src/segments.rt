@@ -1,7 +1,7 @@
 ghost use Rattle.std.specs.Prelude.{◌≡◌, ◌+◌, ◌<◌, ◌↔◌, IsTrue, [], ◌∷◌, OnErr, OnOk, Some, drop, length, map, slice_get};
 ghost use Rattle.tab_core.specs.declared.TheConstants.{ROUND};
 ghost use Rattle.table_form.specs.declared.segment.Segment.{Segment};
-ghost use Rattle.table_form.specs.Inside.Appending.{EndsWith};
+ghost use Rattle.table_form.specs.Inside.Appending.{EndsWithOwner};
 ghost use Rattle.table_form.specs.Tables.Rows.{RisesTo, cells_from};
 ghost use Rattle.table_form.specs.Tables.Segments.{BeginsOther, put_before, segment_view, segments_from};
 
@@ -10,7 +10,7 @@ use std::alloc::AllocError;
 
 // Whether the last segment is of the owner of this one.
 fn is_last_owner(segments: &[Segment], next: &Segment) -> bool
-    ensures { IsTrue result ↔ EndsWith (map segment_view segments.now) next.now.owner }
+    ensures { IsTrue result ↔ EndsWithOwner (map segment_view segments.now) next.now.owner }
 {
     if segments.is_empty() {
         return false;

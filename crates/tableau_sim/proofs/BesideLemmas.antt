@@ -9,31 +9,31 @@ use Rattle.table_form.specs.Promises.Run.{KeepsPromises}
 use Rattle.plan_book.specs.declared.outcome.Outcome.{Outcome as PlanOutcome}
 use Rattle.plan_promises.proofs.RunsLemmas.{run_keeps}
 use Rattle.round_words.specs.declared.view.View.{View}
-use Rattle.round_words.specs.Views.{opening}
-use Rattle.board_state.specs.Readings.{state_of}
+use Rattle.round_words.specs.Views.{unstarted}
+use Rattle.run_state.specs.Readings.{state_of}
 use Rattle.trace_report.specs.ReportText.{report_text}
 use Rattle.trace_report.specs.RunReports.{core_ticks}
-use Rattle.live_run.specs.declared.ran.LiveFault.{LiveFault}
-use Rattle.live_run.specs.declared.ran.LiveFault.TheVariants.{NotBegun, Stopped}
-use Rattle.live_run.specs.LiveRuns.{CanBeTold, IsRunOf, IsUnplanned, LeavesView, RanView}
+use Rattle.run_live.specs.declared.ran.LiveFault.{LiveFault}
+use Rattle.run_live.specs.declared.ran.LiveFault.TheVariants.{NotBegun, Stopped}
+use Rattle.run_live.specs.LiveRuns.{CannotBePlanned, IsLiveRunOf, IsLiveRunWritable, LeavesView, LiveRanView}
 use Rattle.tableau_sim.specs.declared.status.Status.{Status}
 use Rattle.tableau_sim.specs.Frame.{WritesReply}
 use Rattle.tableau_sim.specs.Inside.Reply.{outcome_in}
 use Rattle.tableau_sim.specs.Inside.Running.{AnswersBy}
 use Rattle.tableau_sim.specs.Inside.Stops.{live_stop, plan_stop}
-use Rattle.tableau_sim.specs.Outcomes.Outcome.{Writes}
+use Rattle.tableau_sim.specs.Outcomes.CallOutcome.{Writes}
 use Rattle.tableau_sim.specs.Replay.{HasScript}
 use Rattle.tableau_sim.specs.Run.{Runs, RunsWhole}
 use Rattle.tableau_sim.specs.Seats.{LeavesRun}
 use Rattle.tableau_sim.proofs.RunLemmas.{answered, lacking}
 use Rattle.tableau_sim.proofs.StopsLemmas.{plan_stopped}
 
-module _ (rounds : ℕ) (host : Host) (events : List Event) (view : View) (ran : RanView) (is : IsRunOf rounds host events view ran) where
+module _ (rounds : ℕ) (host : Host) (events : List Event) (view : View) (ran : LiveRanView) (is : IsLiveRunOf rounds host events view ran) where
   promises : KeepsPromises ran.book.course rounds (state_of ran.book.course view)
   promises = is.so_far.promises ran.book.course is.course_kept is.book.course
 
   -- it can be written
-  pub told_live : CanBeTold host ran
+  pub told_live : IsLiveRunWritable host ran
   told_live = record {
     each_vcpu = is.report.is.each_vcpu ∙ sym is.vcpus;
     each_core = ap length is.report.is.cores ∙ (length-map is.report.accounts core_ticks
@@ -70,7 +70,7 @@ module _ (rounds : ℕ) (host : Host) (events : List Event) (view : View) (ran :
 
 -- without a report it didn't begin, or it stopped
 pub left_live : (rounds : ℕ) (old new : View) (sections : List (List ℕ)) (host : Host) (events : List Event)
-    (fault : LiveFault) (sink sink' : SinkView) (told : Status) → HasScript rounds sections host events → old ≡ opening
+    (fault : LiveFault) (sink sink' : SinkView) (told : Status) → HasScript rounds sections host events → old ≡ unstarted
     → LeavesView rounds host events fault new → WritesReply sink sink' (outcome_in (Err (live_stop fault host))) told
     → AnswersBy (Runs rounds Live new sections) (LeavesRun rounds Live old new sections) old new sink sink' told
 left_live rounds old new sections host events (NotBegun fault) sink sink' told script first left written =
@@ -78,8 +78,8 @@ left_live rounds old new sections host events (NotBegun fault) sink sink' told s
     answered (Runs rounds Live new sections) (LeavesRun rounds Live old new sections) old new sink sink' told
     (Err (plan_stop fault host))
     (plan_stopped (Runs rounds Live new sections) host fault
-    (λ vcpu e. Runs.NoPeriod host events vcpu script (subst (IsUnplanned host) e left.1))
-    (λ vcpu rest over e. Runs.NoRoom host events vcpu rest over script (subst (IsUnplanned host) e left.1)))
+    (λ vcpu e. Runs.NoPeriod host events vcpu script (subst (CannotBePlanned host) e left.1))
+    (λ vcpu rest over e. Runs.NoRoom host events vcpu rest over script (subst (CannotBePlanned host) e left.1)))
     same (inl same) written
 left_live rounds old new sections host events Stopped sink sink' told script first left written =
     lacking (Runs rounds Live new sections) (LeavesRun rounds Live old new sections) old new sink sink' told

@@ -17,7 +17,7 @@ use Rattle.tab_words.specs.Sections.{sections_of}
 use Rattle.tab_words.specs.declared.command.Command.TheVariants as called
 use Rattle.tableau_sim.specs.Clauses.{IsFaultless}
 use Rattle.tableau_sim.specs.Commands.{Replies}
-use Rattle.tableau_sim.specs.Outcomes.Outcome.{Refuses}
+use Rattle.tableau_sim.specs.Outcomes.CallOutcome.{Refuses}
 use Rattle.tableau_sim.proofs.OutcomesLemmas.{no_refusal}
 use Rattle.tableau_sim.specs.Plan.{Plans}
 use Rattle.tableau_sim.specs.Sections.{host_section}

@@ -13,23 +13,23 @@ use Rattle.tableau_sim.specs.Clauses.{EndsUnread, FrontIsOut, HasCause, IsFaultl
 use Rattle.tableau_sim.specs.Columns.{reads, takes_memory}
 use Rattle.tableau_sim.specs.Frame.{Answers, Due, HasReadIf, IsDue, MayHaveReadIf, outcome_of}
 use Rattle.tableau_sim.specs.Frame.Due.{LacksMemory, NoCommand, Replied, SourceFailed, TooMuch}
-use Rattle.tableau_sim.specs.Lines.{line_of}
-use Rattle.tableau_sim.specs.Outcomes.{IsOfInput, Outcome, status_of, text_of}
-use Rattle.tableau_sim.specs.Outcomes.Outcome.{Refuses, Writes}
+use Rattle.tableau_sim.specs.Lines.{line_of_status}
+use Rattle.tableau_sim.specs.Outcomes.{CallOutcome, IsOfInput, status_of, text_of_outcome}
+use Rattle.tableau_sim.specs.Outcomes.CallOutcome.{Refuses, Writes}
 use Rattle.tableau_sim.proofs.ReadingLemmas.{read_given, read_within}
 
 -- what is shown of each R: its refusals are of the input
-abbrev pub RefusesInput : (Command → List ℕ → Outcome → Type 0) → Type 0
+abbrev pub RefusesInput : (Command → List ℕ → CallOutcome → Type 0) → Type 0
 RefusesInput R = (command : Command) (input : List ℕ) (refusal : Status) (names : List (List ℕ))
     → R command input (Refuses refusal names) → IsOfInput refusal
 
 -- a command that reads nothing refuses nothing
-abbrev pub WritesUnread : (Command → List ℕ → Outcome → Type 0) → Type 0
-WritesUnread R = (command : Command) (input : List ℕ) (outcome : Outcome) → reads command ≡ false
+abbrev pub WritesUnread : (Command → List ℕ → CallOutcome → Type 0) → Type 0
+WritesUnread R = (command : Command) (input : List ℕ) (outcome : CallOutcome) → reads command ≡ false
     → R command input outcome → status_of outcome ≡ status.Ok
 
 -- what is due came whole, with its status
-pub record IsTold (R : Command → List ℕ → Outcome → Type 0) (Leaves : Due → List ℕ → Type 0)
+pub record IsTold (R : Command → List ℕ → CallOutcome → Type 0) (Leaves : Due → List ℕ → Type 0)
     (words : List (List ℕ)) (source source' : SourceView) (sink sink' : SinkView)
     (told : Status) : Type 0 where
   pub input : List ℕ
@@ -37,10 +37,10 @@ pub record IsTold (R : Command → List ℕ → Outcome → Type 0) (Leaves : Du
   pub due : Due
   pub is_due : IsDue R Leaves words source source' input due
   pub told_is : status_of (outcome_of due) ≡ told
-  pub out : IsOut sink sink' (text_of (outcome_of due))
+  pub out : IsOut sink sink' (text_of_outcome (outcome_of due))
 
 -- where the status is no write fault, what was due is out whole: each clause on a status starts here
-told_due : (R : Command → List ℕ → Outcome → Type 0) (Leaves : Due → List ℕ → Type 0)
+told_due : (R : Command → List ℕ → CallOutcome → Type 0) (Leaves : Due → List ℕ → Type 0)
     (words : List (List ℕ)) (source source' : SourceView) (sink sink' : SinkView) (told : Status)
     → Answers R Leaves words source source' sink sink' told → told ≢ status.WriteFault
     → IsTold R Leaves words source source' sink sink' told
@@ -59,26 +59,26 @@ told_due R Leaves words source source' sink sink' told a works = elim a.written.
 -- ---- a text
 
 -- a command that ends with `Ok` has written a text, since its refusals are of its input
-outcome_written : (outcome : Outcome) → status_of outcome ≡ status.Ok
+outcome_written : (outcome : CallOutcome) → status_of outcome ≡ status.Ok
     → ((refusal : Status) (names : List (List ℕ)) → outcome ≡ Refuses refusal names → IsOfInput refusal)
-    → outcome ≡ Writes (text_of outcome)
+    → outcome ≡ Writes (text_of_outcome outcome)
 outcome_written (Writes text) is of = refl
 outcome_written (Refuses refusal names) is of = absurd (subst IsOfInput is (of refusal names refl))
 
 -- a command that ends with `Ok` has written a text, by a premise on any outcome, so that it needn't
 -- be a refusal by its form
-of_input : (R : Command → List ℕ → Outcome → Type 0) (refuses : RefusesInput R)
-    (command : Command) (input : List ℕ) (outcome : Outcome) → R command input outcome
+of_input : (R : Command → List ℕ → CallOutcome → Type 0) (refuses : RefusesInput R)
+    (command : Command) (input : List ℕ) (outcome : CallOutcome) → R command input outcome
     → (refusal : Status) (names : List (List ℕ)) → outcome ≡ Refuses refusal names → IsOfInput refusal
 of_input R refuses command input outcome h refusal names is =
     refuses command input refusal names (subst (R command input) is h)
 
 -- with `Ok` only a reply can have been due, and it is a text of the command
-wrote_of : (R : Command → List ℕ → Outcome → Type 0) (Leaves : Due → List ℕ → Type 0) (refuses : RefusesInput R)
+wrote_of : (R : Command → List ℕ → CallOutcome → Type 0) (Leaves : Due → List ℕ → Type 0) (refuses : RefusesInput R)
     (words : List (List ℕ)) (source source' : SourceView) (sink sink' : SinkView)
     (command : Command) (input : List ℕ) (due : Due) → IsCommand words command
     → Consumes source.rest source'.rest input → IsDue R Leaves words source source' input due
-    → status_of (outcome_of due) ≡ status.Ok → IsOut sink sink' (text_of (outcome_of due))
+    → status_of (outcome_of due) ≡ status.Ok → IsOut sink sink' (text_of_outcome (outcome_of due))
     → WroteFor R command source source' sink sink'
 wrote_of R Leaves refuses words source source' sink sink' command input (NoCommand place) are consumed h is out = absurd cc
 wrote_of R Leaves refuses words source source' sink sink' command input (SourceFailed other) are consumed h is out = absurd cc
@@ -90,14 +90,14 @@ wrote_of R Leaves refuses words source source' sink sink' command input (Replied
     record {
       input = input;
       read = record { consumed = consumed; read = subst (λ c. HasReadIf (reads c) source' input) same h.1 };
-      text = text_of outcome;
+      text = text_of_outcome outcome;
       replies = subst (R command input)
           (outcome_written outcome is (of_input R refuses other input outcome h.2)) replies;
       out = out;
     }
 
 -- the clause `wrote`
-pub wrote_told : (R : Command → List ℕ → Outcome → Type 0) (Leaves : Due → List ℕ → Type 0) (refuses : RefusesInput R)
+pub wrote_told : (R : Command → List ℕ → CallOutcome → Type 0) (Leaves : Due → List ℕ → Type 0) (refuses : RefusesInput R)
     (words : List (List ℕ)) (source source' : SourceView) (sink sink' : SinkView) (told : Status)
     → Answers R Leaves words source source' sink sink' told → (command : Command) → IsCommand words command
     → told ≡ status.Ok → WroteFor R command source source' sink sink'
@@ -109,11 +109,11 @@ wrote_told R Leaves refuses words source source' sink sink' told a command are i
 -- ---- a refusal of the input
 
 -- with a refusal of the input only a refusal of a command can have been due
-cause_of : (R : Command → List ℕ → Outcome → Type 0) (Leaves : Due → List ℕ → Type 0)
+cause_of : (R : Command → List ℕ → CallOutcome → Type 0) (Leaves : Due → List ℕ → Type 0)
     (words : List (List ℕ)) (source source' : SourceView) (sink sink' : SinkView) (told : Status)
     (input : List ℕ) (due : Due) → Consumes source.rest source'.rest input
     → IsDue R Leaves words source source' input due → status_of (outcome_of due) ≡ told
-    → IsOut sink sink' (text_of (outcome_of due)) → IsOfInput told
+    → IsOut sink sink' (text_of_outcome (outcome_of due)) → IsOfInput told
     → HasCause R words source source' sink sink' told
 cause_of R Leaves words source source' sink sink' told input (NoCommand place) consumed h is out of =
     absurd (subst IsOfInput (sym is) of)
@@ -133,11 +133,11 @@ cause_of R Leaves words source source' sink sink' told input (Replied command (R
       read = record { consumed = consumed; read = h.1 };
       names = names;
       replies = subst (λ r. R command input (Refuses r names)) is h.2;
-      out = subst (λ r. IsOut sink sink' (line_of names r)) is out;
+      out = subst (λ r. IsOut sink sink' (line_of_status names r)) is out;
     }
 
 -- the clause `refused`
-pub cause_told : (R : Command → List ℕ → Outcome → Type 0) (Leaves : Due → List ℕ → Type 0)
+pub cause_told : (R : Command → List ℕ → CallOutcome → Type 0) (Leaves : Due → List ℕ → Type 0)
     (words : List (List ℕ)) (source source' : SourceView) (sink sink' : SinkView) (told : Status)
     → Answers R Leaves words source source' sink sink' told → IsOfInput told
     → HasCause R words source source' sink sink' told
@@ -148,8 +148,8 @@ cause_told R Leaves words source source' sink sink' told a of =
 -- ---- a faultless input
 
 -- what a command makes of a faultless input is a text
-faultless : (R : Command → List ℕ → Outcome → Type 0)
-    (command : Command) (input : List ℕ) (outcome : Outcome) → IsFaultless R command input
+faultless : (R : Command → List ℕ → CallOutcome → Type 0)
+    (command : Command) (input : List ℕ) (outcome : CallOutcome) → IsFaultless R command input
     → R command input outcome → status_of outcome ≡ status.Ok
 faultless R command input (Writes text) fine h = refl
 faultless R command input (Refuses refusal names) fine h = absurd (fine refusal names h)
@@ -165,7 +165,7 @@ not_too_much true old new input given reading_is is consumed size =
 not_too_much false old new input given reading_is is consumed size = absurd cc
 
 -- over a source that works, of a faultless input a text is due, or memory ran out
-complete_of : (R : Command → List ℕ → Outcome → Type 0) (Leaves : Due → List ℕ → Type 0)
+complete_of : (R : Command → List ℕ → CallOutcome → Type 0) (Leaves : Due → List ℕ → Type 0)
     (words : List (List ℕ)) (source source' : SourceView) (command : Command)
     (input given : List ℕ) (due : Due) → IsCommand words command → IsToRead command source given
     → IsFaultless R command given → (Rose source.faults source'.faults → ⊥)
@@ -188,7 +188,7 @@ complete_of R Leaves words source source' command input given (Replied other out
     inl (faultless R command given outcome fine (subst (λ i. R command i outcome) whole replies))
 
 -- the clause `complete`
-pub complete_told : (R : Command → List ℕ → Outcome → Type 0) (Leaves : Due → List ℕ → Type 0)
+pub complete_told : (R : Command → List ℕ → CallOutcome → Type 0) (Leaves : Due → List ℕ → Type 0)
     (words : List (List ℕ)) (source source' : SourceView) (sink sink' : SinkView)
     (told : Status) → Answers R Leaves words source source' sink sink' told → (command : Command)
     (given : List ℕ) → IsCommand words command → IsToRead command source given → IsFaultless R command given
@@ -206,7 +206,7 @@ complete_told R Leaves words source source' sink sink' told a command given are 
 -- ---- a command that reads nothing
 
 -- what is due is its text, or memory ran out, and nothing was read
-silent_of : (R : Command → List ℕ → Outcome → Type 0) (Leaves : Due → List ℕ → Type 0) (silent : WritesUnread R)
+silent_of : (R : Command → List ℕ → CallOutcome → Type 0) (Leaves : Due → List ℕ → Type 0) (silent : WritesUnread R)
     (words : List (List ℕ)) (source source' : SourceView) (command : Command)
     (input : List ℕ) (due : Due) → IsCommand words command → reads command ≡ false
     → IsDue R Leaves words source source' input due
@@ -241,7 +241,7 @@ ends_unread true told due (inl is) (inr lacks) = inr (inr (is ∙ lacks.1))
 ends_unread true told due (inr failed) end = inr (inl failed)
 
 -- the clause `unread`
-pub silent_told : (R : Command → List ℕ → Outcome → Type 0) (Leaves : Due → List ℕ → Type 0) (silent : WritesUnread R)
+pub silent_told : (R : Command → List ℕ → CallOutcome → Type 0) (Leaves : Due → List ℕ → Type 0) (silent : WritesUnread R)
     (words : List (List ℕ)) (source source' : SourceView) (sink sink' : SinkView)
     (told : Status) → Answers R Leaves words source source' sink sink' told → (command : Command)
     → IsCommand words command → reads command ≡ false
@@ -256,7 +256,7 @@ silent_told R Leaves silent words source source' sink sink' told a command are s
 -- ---- the words
 
 -- `Usage` can only have been due for words that are no command
-usage_of : (R : Command → List ℕ → Outcome → Type 0) (Leaves : Due → List ℕ → Type 0) (refuses : RefusesInput R)
+usage_of : (R : Command → List ℕ → CallOutcome → Type 0) (Leaves : Due → List ℕ → Type 0) (refuses : RefusesInput R)
     (words : List (List ℕ)) (source source' : SourceView) (input : List ℕ) (due : Due) (place : ℕ)
     → IsDue R Leaves words source source' input due → status_of (outcome_of due) ≡ status.Usage place
     → IsFaultAt words place × (input ≡ [])
@@ -270,7 +270,7 @@ usage_of R Leaves refuses words source source' input (Replied command (Refuses r
     absurd (subst IsOfInput is (refuses command input refusal names h.2))
 
 -- the clause `usage`
-pub usage_told : (R : Command → List ℕ → Outcome → Type 0) (Leaves : Due → List ℕ → Type 0) (refuses : RefusesInput R)
+pub usage_told : (R : Command → List ℕ → CallOutcome → Type 0) (Leaves : Due → List ℕ → Type 0) (refuses : RefusesInput R)
     (words : List (List ℕ)) (source source' : SourceView) (sink sink' : SinkView)
     (told : Status) → Answers R Leaves words source source' sink sink' told → (place : ℕ)
     → told ≡ status.Usage place → IsFaultAt words place × Unread source source'
@@ -280,7 +280,7 @@ usage_told R Leaves refuses words source source' sink sink' told a place is =
     (u.0, subst (Consumes source.rest source'.rest) u.1 t.consumed)
 
 -- for words that are no command nothing but `Usage` can be due
-usage_only : (R : Command → List ℕ → Outcome → Type 0) (Leaves : Due → List ℕ → Type 0)
+usage_only : (R : Command → List ℕ → CallOutcome → Type 0) (Leaves : Due → List ℕ → Type 0)
     (words : List (List ℕ)) (source source' : SourceView) (input : List ℕ) (due : Due) (place : ℕ)
     → IsFaultAt words place → IsDue R Leaves words source source' input due
     → status_of (outcome_of due) ≡ status.Usage place
@@ -296,7 +296,7 @@ usage_only R Leaves words source source' input (Replied command outcome) place f
     absurd (no_fault words command place h.0 fault)
 
 -- the clause `usage_due`
-pub usage_due : (R : Command → List ℕ → Outcome → Type 0) (Leaves : Due → List ℕ → Type 0)
+pub usage_due : (R : Command → List ℕ → CallOutcome → Type 0) (Leaves : Due → List ℕ → Type 0)
     (words : List (List ℕ)) (source source' : SourceView) (sink sink' : SinkView)
     (told : Status) → Answers R Leaves words source source' sink sink' told → (place : ℕ) → IsFaultAt words place
     → (told ≡ status.Usage place) ⊎ (told ≡ status.WriteFault)
@@ -308,7 +308,7 @@ usage_due R Leaves words source source' sink sink' told a place fault = elim a.w
 -- ---- the ends
 
 -- `ReadFault` can only have been due after a fault of the source
-read_fault_of : (R : Command → List ℕ → Outcome → Type 0) (Leaves : Due → List ℕ → Type 0) (refuses : RefusesInput R)
+read_fault_of : (R : Command → List ℕ → CallOutcome → Type 0) (Leaves : Due → List ℕ → Type 0) (refuses : RefusesInput R)
     (words : List (List ℕ)) (source source' : SourceView) (input : List ℕ) (due : Due)
     → IsDue R Leaves words source source' input due → status_of (outcome_of due) ≡ status.ReadFault
     → Rose source.faults source'.faults
@@ -321,7 +321,7 @@ read_fault_of R Leaves refuses words source source' input (Replied command (Refu
     absurd (subst IsOfInput is (refuses command input refusal names h.2))
 
 -- the clause `read_fault`
-pub read_fault_told : (R : Command → List ℕ → Outcome → Type 0) (Leaves : Due → List ℕ → Type 0) (refuses : RefusesInput R)
+pub read_fault_told : (R : Command → List ℕ → CallOutcome → Type 0) (Leaves : Due → List ℕ → Type 0) (refuses : RefusesInput R)
     (words : List (List ℕ)) (source source' : SourceView) (sink sink' : SinkView)
     (told : Status) → Answers R Leaves words source source' sink sink' told → told ≡ status.ReadFault
     → Rose source.faults source'.faults
@@ -330,7 +330,7 @@ read_fault_told R Leaves refuses words source source' sink sink' told a is =
     read_fault_of R Leaves refuses words source source' t.input t.due t.is_due (t.told_is ∙ is)
 
 -- `TooLong` can only have been due after a byte too much
-too_long_of : (R : Command → List ℕ → Outcome → Type 0) (Leaves : Due → List ℕ → Type 0) (refuses : RefusesInput R)
+too_long_of : (R : Command → List ℕ → CallOutcome → Type 0) (Leaves : Due → List ℕ → Type 0) (refuses : RefusesInput R)
     (words : List (List ℕ)) (source source' : SourceView) (input : List ℕ) (due : Due)
     → IsDue R Leaves words source source' input due → status_of (outcome_of due) ≡ status.TooLong
     → length input ≡ INPUT_LIMIT + 1
@@ -343,7 +343,7 @@ too_long_of R Leaves refuses words source source' input (Replied command (Refuse
     absurd (subst IsOfInput is (refuses command input refusal names h.2))
 
 -- the clause `too_long`
-pub too_long_told : (R : Command → List ℕ → Outcome → Type 0) (Leaves : Due → List ℕ → Type 0) (refuses : RefusesInput R)
+pub too_long_told : (R : Command → List ℕ → CallOutcome → Type 0) (Leaves : Due → List ℕ → Type 0) (refuses : RefusesInput R)
     (words : List (List ℕ)) (source source' : SourceView) (sink sink' : SinkView)
     (told : Status) → Answers R Leaves words source source' sink sink' told → told ≡ status.TooLong
     → ReadTooMuch source source'
@@ -352,7 +352,7 @@ too_long_told R Leaves refuses words source source' sink sink' told a is =
     (t.input, t.consumed, too_long_of R Leaves refuses words source source' t.input t.due t.is_due (t.told_is ∙ is))
 
 -- with `NoMemory` only running out of memory can have been due
-lacked_of : (R : Command → List ℕ → Outcome → Type 0) (Leaves : Due → List ℕ → Type 0) (refuses : RefusesInput R)
+lacked_of : (R : Command → List ℕ → CallOutcome → Type 0) (Leaves : Due → List ℕ → Type 0) (refuses : RefusesInput R)
     (words : List (List ℕ)) (source source' : SourceView) (input : List ℕ) (due : Due)
     → Consumes source.rest source'.rest input → IsDue R Leaves words source source' input due
     → status_of (outcome_of due) ≡ status.NoMemory → Lacked Leaves words source source'
@@ -371,7 +371,7 @@ lacked_of R Leaves refuses words source source' input (Replied command (Refuses 
     absurd (subst IsOfInput is (refuses command input refusal names h.2))
 
 -- the clause `no_memory`
-pub lacked_told : (R : Command → List ℕ → Outcome → Type 0) (Leaves : Due → List ℕ → Type 0) (refuses : RefusesInput R)
+pub lacked_told : (R : Command → List ℕ → CallOutcome → Type 0) (Leaves : Due → List ℕ → Type 0) (refuses : RefusesInput R)
     (words : List (List ℕ)) (source source' : SourceView) (sink sink' : SinkView)
     (told : Status) → Answers R Leaves words source source' sink sink' told → told ≡ status.NoMemory
     → Lacked Leaves words source source'
@@ -380,7 +380,7 @@ lacked_told R Leaves refuses words source source' sink sink' told a is =
     lacked_of R Leaves refuses words source source' t.input t.due t.consumed t.is_due (t.told_is ∙ is)
 
 -- `WriteFault` is never due, so it tells of the sink
-no_write_fault : (R : Command → List ℕ → Outcome → Type 0) (Leaves : Due → List ℕ → Type 0) (refuses : RefusesInput R)
+no_write_fault : (R : Command → List ℕ → CallOutcome → Type 0) (Leaves : Due → List ℕ → Type 0) (refuses : RefusesInput R)
     (words : List (List ℕ)) (source source' : SourceView) (input : List ℕ) (due : Due)
     → IsDue R Leaves words source source' input due → status_of (outcome_of due) ≢ status.WriteFault
 no_write_fault R Leaves refuses words source source' input (NoCommand place) h is = absurd cc
@@ -392,7 +392,7 @@ no_write_fault R Leaves refuses words source source' input (Replied command (Ref
     absurd (subst IsOfInput is (refuses command input refusal names h.2))
 
 -- the clause `write_fault`
-pub front_told : (R : Command → List ℕ → Outcome → Type 0) (Leaves : Due → List ℕ → Type 0) (refuses : RefusesInput R)
+pub front_told : (R : Command → List ℕ → CallOutcome → Type 0) (Leaves : Due → List ℕ → Type 0) (refuses : RefusesInput R)
     (words : List (List ℕ)) (source source' : SourceView) (sink sink' : SinkView)
     (told : Status) → Answers R Leaves words source source' sink sink' told → told ≡ status.WriteFault
     → FrontIsOut R Leaves words source source' sink sink'
@@ -411,17 +411,17 @@ front_told R Leaves refuses words source source' sink sink' told a is = elim a.w
 -- ---- a refusal's line
 
 -- the text of an outcome that isn't `Ok` is a line
-line_from : (outcome : Outcome) → status_of outcome ≢ status.Ok
-    → (names : List (List ℕ)) × (text_of outcome ≡ line_of names (status_of outcome))
+line_from : (outcome : CallOutcome) → status_of outcome ≢ status.Ok
+    → (names : List (List ℕ)) × (text_of_outcome outcome ≡ line_of_status names (status_of outcome))
 line_from (Writes text) not_ok = absurd (not_ok refl)
 line_from (Refuses refusal names) not_ok = (names, refl)
 
 -- the clause `refusal`
-pub line_told : (R : Command → List ℕ → Outcome → Type 0) (Leaves : Due → List ℕ → Type 0)
+pub line_told : (R : Command → List ℕ → CallOutcome → Type 0) (Leaves : Due → List ℕ → Type 0)
     (words : List (List ℕ)) (source source' : SourceView) (sink sink' : SinkView)
     (told : Status) → Answers R Leaves words source source' sink sink' told → told ≢ status.Ok
     → told ≢ status.WriteFault → LineIsOut sink sink' told
 line_told R Leaves words source source' sink sink' told a not_ok not_failed =
     let t = told_due R Leaves words source source' sink sink' told a not_failed in
     let line = line_from (outcome_of t.due) (λ ok. not_ok (sym t.told_is ∙ ok)) in
-    (line.0, subst (IsOut sink sink') (line.1 ∙ ap (line_of line.0) t.told_is) t.out)
+    (line.0, subst (IsOut sink sink') (line.1 ∙ ap (line_of_status line.0) t.told_is) t.out)

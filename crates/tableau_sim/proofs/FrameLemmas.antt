@@ -9,17 +9,17 @@ use Rattle.tab_io.specs.declared.sink.WriteFault.{WriteFault}
 use Rattle.tab_io.proofs.SinkLemmas.{rose_since}
 use Rattle.tableau_sim.specs.declared.status.Status.TheVariants as status
 use Rattle.tableau_sim.specs.Frame.{WritesReply}
-use Rattle.tableau_sim.specs.Outcomes.{Outcome, text_of}
+use Rattle.tableau_sim.specs.Outcomes.{CallOutcome, text_of_outcome}
 
 -- the text is out whole and `finish` fails: the answer is a write fault, with the whole text as what was
 -- written
-pub unsettled : (s t v : SinkView) (due : Outcome) (q : Result (Unit {0}) WriteFault)
+pub unsettled : (s t v : SinkView) (due : CallOutcome) (q : Result (Unit {0}) WriteFault)
     (u : Unit {0})
-    → Writes s t (text_of due) q → q ≡ Ok u → Rose t.faults v.faults → ((m : ℕ) → t.room ≡ Some m → ⊥)
+    → Writes s t (text_of_outcome due) q → q ≡ Ok u → Rose t.faults v.faults → ((m : ℕ) → t.room ≡ Some m → ⊥)
     → Keeps t.taken v.taken → t.faults ≤ v.faults
     → WritesReply s v due status.WriteFault
 unsettled s t v due q u h is rose works taken later =
-    let text = text_of due in
+    let text = text_of_outcome due in
     let w : Writes s t text (Ok u) = subst (λ (k : Result (Unit {0}) WriteFault). Writes s t text k) is h in
     record {
       later = omega (arith, w.later, later);

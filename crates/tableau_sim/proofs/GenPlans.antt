@@ -15,7 +15,7 @@ use Rattle.tableau_sim.specs.declared.status.Status.{Status}
 use Rattle.tableau_sim.specs.Clauses.{IsFaultless}
 use Rattle.tableau_sim.specs.Commands.{Replies}
 use Rattle.tableau_sim.specs.Gen.{Gens}
-use Rattle.tableau_sim.specs.Outcomes.Outcome.{Refuses, Writes}
+use Rattle.tableau_sim.specs.Outcomes.CallOutcome.{Refuses, Writes}
 use Rattle.tableau_sim.specs.Plan.{Plans}
 use Rattle.tableau_sim.specs.Sections.{host_section}
 use Rattle.tableau_sim.proofs.HostsLemmas.{no_host_fault}

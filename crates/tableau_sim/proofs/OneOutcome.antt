@@ -10,6 +10,7 @@ use Rattle.table_form.specs.Running.State.{State, opening}
 use Rattle.table_form.specs.declared.raw_tables.RawTables.{RawTables}
 use Rattle.tab_words.specs.declared.command.Command.{Command}
 use Rattle.tab_words.specs.declared.command.Command.TheVariants as called
+use Rattle.tab_words.specs.Texts.{worded}
 use Rattle.vcpu_names.specs.Names.{names_of}
 use Rattle.host_doc.specs.Document.{IsHostText}
 use Rattle.host_doc.proofs.HostNames.{stated_names}
@@ -22,7 +23,7 @@ use Rattle.plan_make.proofs.OnePlan.{planned_unique, staying_unique}
 use Rattle.plan_make.proofs.OneRefusal.{HasPlanFault, HasStayingFault, one_plan_fault, one_staying_fault, one_without_period, planned_or_fault, staying_or_fault}
 use Rattle.period_choice.proofs.TasksLemmas.{none_without_period}
 use Rattle.plan_text.specs.FirstBad.{IsFirstBadFor}
-use Rattle.plan_text.specs.Meaning.{IsPlanText, IsSomePlan, worded}
+use Rattle.plan_text.specs.Meaning.{IsPlanText, IsSomePlan}
 use Rattle.plan_text.specs.OldHomes.{AreOldHomes}
 use Rattle.plan_text.specs.OldText.{IsSomeOldText}
 use Rattle.plan_text.specs.PlanText.{plan_text}
@@ -55,13 +56,13 @@ use Rattle.tableau_sim.specs.declared.status.Status.{Status}
 use Rattle.tableau_sim.specs.declared.status.Status.TheVariants as status
 use Rattle.tableau_sim.specs.Check.{Checks, plan_section}
 use Rattle.tableau_sim.specs.Commands.{Replies}
-use Rattle.tableau_sim.specs.Outcomes.{Outcome}
-use Rattle.tableau_sim.specs.Outcomes.Outcome.{Refuses, Writes}
+use Rattle.tableau_sim.specs.Outcomes.{CallOutcome}
+use Rattle.tableau_sim.specs.Outcomes.CallOutcome.{Refuses, Writes}
 use Rattle.tableau_sim.specs.Gen.{Gens}
 use Rattle.tableau_sim.specs.Plan.{Plans}
 use Rattle.tableau_sim.specs.PlanStay.{PlansStaying}
 use Rattle.tableau_sim.specs.PlanWhole.{PlansWhole}
-use Rattle.tableau_sim.specs.Replay.{HasParts, Parts, Replays, script_section, steps_section}
+use Rattle.tableau_sim.specs.Replay.{HasReplayInput, ReplayInput, Replays, script_section, steps_section}
 use Rattle.tableau_sim.specs.Sections.{host_section}
 use Rattle.tableau_sim.proofs.Stages.{Ends, HostStage, IsOne, Staged, one_end, one_host_stage, one_of_sections, one_staged, same_pair}
 use Rattle.tableau_sim.proofs.WholeOutcomes.{whole_only}
@@ -69,17 +70,17 @@ use Rattle.tableau_sim.proofs.WholeOutcomes.{whole_only}
 -- ---- plan
 
 -- how a fault of planning is refused
-abbrev plan_refusal : Host → PlanFault → Outcome
+abbrev plan_refusal : Host → PlanFault → CallOutcome
 plan_refusal h (planning.NoPeriod vcpu) = Refuses (status.NoPeriod vcpu) (names_of h.vcpus)
 plan_refusal h (planning.NoRoom vcpu rest over) = Refuses (status.NoRoom vcpu rest over) (names_of h.vcpus)
 plan_refusal h planning.NoMemory = Refuses status.NoMemory []
 
 -- what `plan` makes of a host
-abbrev OfHost : Host → Outcome → Type 0
+abbrev OfHost : Host → CallOutcome → Type 0
 OfHost h = Ends (HasPlanFault h) (plan_refusal h) (IsPlanned h) (λ p. Writes (plan_text (names_of h.vcpus) p))
 
 -- an outcome of `plan`, by its stages
-plan_stages : (s : List (List ℕ)) (o : Outcome) → Plans s o → HostStage s OfHost o
+plan_stages : (s : List (List ℕ)) (o : CallOutcome) → Plans s o → HostStage s OfHost o
 plan_stages s o (Plans.Planned h p is has) = inr (h, is, inr (p, has.planned, refl))
 plan_stages s o (Plans.BadHost f bad) = inl (f, bad, refl)
 plan_stages s o (Plans.NoPeriod h vcpu is lacks) = inr (h, is, inl (planning.NoPeriod vcpu, lacks, refl))
@@ -87,7 +88,7 @@ plan_stages s o (Plans.NoRoom h vcpu rest over is lacks) =
     inr (h, is, inl (planning.NoRoom vcpu rest over, lacks, refl))
 
 -- `plan` makes one outcome of its sections
-plan_only : (s : List (List ℕ)) (a b : Outcome) → Plans s a → Plans s b → a ≡ b
+plan_only : (s : List (List ℕ)) (a b : CallOutcome) → Plans s a → Plans s b → a ≡ b
 plan_only s a b of_a of_b = one_host_stage s OfHost a b (λ h is.
     one_end _ (plan_refusal h) _ (λ p. Writes (plan_text (names_of h.vcpus) p)) a b (record {
       cause = one_plan_fault h;
@@ -98,18 +99,18 @@ plan_only s a b of_a of_b = one_host_stage s OfHost a b (λ h is.
 -- ---- plan stay
 
 -- what `plan stay` makes of old homes
-abbrev OfOldHomes : Host → List (Option ℕ) → Outcome → Type 0
+abbrev OfOldHomes : Host → List (Option ℕ) → CallOutcome → Type 0
 OfOldHomes h homes = Ends (HasStayingFault homes h) (plan_refusal h) (IsStayingPlan homes h)
     (λ p. Writes (plan_text (names_of h.vcpus) p))
 
 -- what `replay` makes of a host
-abbrev OfStayingHost : List (List ℕ) → Host → Outcome → Type 0
+abbrev OfStayingHost : List (List ℕ) → Host → CallOutcome → Type 0
 OfStayingHost s h = Staged (IsFirstBadFor IsSomeOldText 1 (worded (plan_section s)))
     (λ line. Refuses (status.BadPlanLine line) [])
     (AreOldHomes (names_of h.vcpus) (worded (plan_section s))) (OfOldHomes h)
 
 -- an outcome of `plan stay`, by its stages
-stay_stages : (s : List (List ℕ)) (o : Outcome) → PlansStaying s o → HostStage s (OfStayingHost s) o
+stay_stages : (s : List (List ℕ)) (o : CallOutcome) → PlansStaying s o → HostStage s (OfStayingHost s) o
 stay_stages s o (PlansStaying.Planned h homes p old has) =
     inr (h, old.is_host, inr (homes, old.old, inr (p, has.planned, refl)))
 stay_stages s o (PlansStaying.BadHost f bad) = inl (f, bad, refl)
@@ -130,7 +131,7 @@ one_old s h = record {
 }
 
 -- `plan stay` makes one outcome of its sections
-stay_only : (s : List (List ℕ)) (a b : Outcome) → PlansStaying s a → PlansStaying s b → a ≡ b
+stay_only : (s : List (List ℕ)) (a b : CallOutcome) → PlansStaying s a → PlansStaying s b → a ≡ b
 stay_only s a b of_a of_b = one_host_stage s (OfStayingHost s) a b (λ h is.
     one_staged _ _ _ (OfOldHomes h) a b (one_old s h) (λ homes old.
     one_end _ (plan_refusal h) _ (λ p. Writes (plan_text (names_of h.vcpus) p)) a b (record {
@@ -142,24 +143,24 @@ stay_only s a b of_a of_b = one_host_stage s (OfStayingHost s) a b (λ h is.
 -- ---- check
 
 -- what `check` makes of tables
-abbrev OfTables : Host → List (Option Periodic) → RawTables → Outcome → Type 0
+abbrev OfTables : Host → List (Option Periodic) → RawTables → CallOutcome → Type 0
 OfTables h t raw = Ends (HasCheckFault t raw.rows) (λ f. Refuses (status.CheckNo f) (names_of h.vcpus))
     (λ (_ : Unit {0}). AreGood t raw.rows) (λ _. Writes (codes "ok\n"))
 
 -- what `check` makes of tasks
-abbrev OfTasks : List (List ℕ) → Host → List (Option Periodic) → Outcome → Type 0
+abbrev OfTasks : List (List ℕ) → Host → List (Option Periodic) → CallOutcome → Type 0
 OfTasks s h t =
     Staged (IsFirstBadFor (IsSomePlan (names_of h.vcpus) h.cores t) 1 (worded (plan_section s)))
     (λ line. Refuses (status.BadPlanLine line) [])
     (IsPlanText (names_of h.vcpus) h.cores t (plan_section s)) (OfTables h t)
 
 -- what `replay` makes of a host
-abbrev OfCheckedHost : List (List ℕ) → Host → Outcome → Type 0
+abbrev OfCheckedHost : List (List ℕ) → Host → CallOutcome → Type 0
 OfCheckedHost s h = Staged (IsFirstWithoutPeriod h)
     (λ vcpu. Refuses (status.NoPeriod vcpu) (names_of h.vcpus)) (AreTasksOf h) (OfTasks s h)
 
 -- an outcome of `check`, by its stages
-check_stages : (s : List (List ℕ)) (o : Outcome) → Checks s o → HostStage s (OfCheckedHost s) o
+check_stages : (s : List (List ℕ)) (o : CallOutcome) → Checks s o → HostStage s (OfCheckedHost s) o
 check_stages s o (Checks.Passes h t r has good) =
     inr (h, has.tasked.is_host, inr (t, has.tasked.are_tasks, inr (r, has.text, inr (tt, good, refl))))
 check_stages s o (Checks.BadHost f bad) = inl (f, bad, refl)
@@ -186,7 +187,7 @@ one_text s h t is are =
     }
 
 -- `check` makes one outcome of its sections
-pub check_only : (s : List (List ℕ)) (a b : Outcome) → Checks s a → Checks s b → a ≡ b
+pub check_only : (s : List (List ℕ)) (a b : CallOutcome) → Checks s a → Checks s b → a ≡ b
 check_only s a b of_a of_b = one_host_stage s (OfCheckedHost s) a b (λ h is.
     one_staged _ _ _ (OfTasks s h) a b (record {
       cause = one_without_period h;
@@ -203,47 +204,47 @@ check_only s a b of_a of_b = one_host_stage s (OfCheckedHost s) a b (λ h is.
 -- ---- replay
 
 -- the host, the script, and the steps with their lines, as the parts of a run
-abbrev parts_of : Host → List Event → List Step × List ℕ → Parts
+abbrev parts_of : Host → List Event → List Step × List ℕ → ReplayInput
 parts_of h events listed = record { host = h; events = events; steps = listed.0; lines = listed.1 }
 
 -- the step on the line is refused in a run of the course
-abbrev IsRefusedOn : ℕ → Parts → CourseView → ℕ × Answer → Type 0
+abbrev IsRefusedOn : ℕ → ReplayInput → CourseView → ℕ × Answer → Type 0
 IsRefusedOn rounds parts course at = (place : ℕ) × (slice_get parts.lines place ≡ Some at.0)
     × IsRefused course rounds parts.steps place at.1
 
 -- the steps lead to this state and make this
-abbrev IsRunOf : ℕ → Parts → CourseView → State × List Made → Type 0
+abbrev IsRunOf : ℕ → ReplayInput → CourseView → State × List Made → Type 0
 IsRunOf rounds parts course run = IsTrace course rounds (opening course.cores) parts.steps run.0 run.1
 
 -- the text of that
-abbrev run_text : Parts → CourseView → State × List Made → Outcome
+abbrev run_text : ReplayInput → CourseView → State × List Made → CallOutcome
 run_text parts course run = Writes (replay_text (names_of parts.host.vcpus) course run.1 run.0.posted)
 
 -- what `replay` makes of a course
-abbrev OfCourse : ℕ → Parts → CourseView → Outcome → Type 0
+abbrev OfCourse : ℕ → ReplayInput → CourseView → CallOutcome → Type 0
 OfCourse rounds parts course = Ends (IsRefusedOn rounds parts course)
     (λ at. Refuses (status.StepRefused at.0 at.1) []) (IsRunOf rounds parts course) (run_text parts course)
 
 -- what `replay` makes of its parts
-abbrev OfParts : ℕ → Parts → Outcome → Type 0
+abbrev OfParts : ℕ → ReplayInput → CallOutcome → Type 0
 OfParts rounds parts = Staged (HasPlanFault parts.host) (plan_refusal parts.host)
     (IsFormedCourseOf parts.host parts.events) (OfCourse rounds parts)
 
 -- what `replay` makes of a script
-abbrev OfScript : ℕ → List (List ℕ) → Host → List Event → Outcome → Type 0
+abbrev OfScript : ℕ → List (List ℕ) → Host → List Event → CallOutcome → Type 0
 OfScript rounds s h events = Staged (IsFirstBadLine h.cores (statements_of (steps_section s)))
     (λ line. Refuses (status.BadStep line) [])
     (λ (listed : List Step × List ℕ). AreSteps h.cores (statements_of (steps_section s)) listed.0 listed.1)
     (λ listed. OfParts rounds (parts_of h events listed))
 
 -- what `replay` makes of a host
-abbrev OfReplayedHost : ℕ → List (List ℕ) → Host → Outcome → Type 0
+abbrev OfReplayedHost : ℕ → List (List ℕ) → Host → CallOutcome → Type 0
 OfReplayedHost rounds s h = Staged (IsFirstFault (names_of h.vcpus) rounds (statements_of (script_section s)))
     (λ f. Refuses (status.Script f) [])
     (IsScript (names_of h.vcpus) rounds (statements_of (script_section s))) (OfScript rounds s h)
 
 -- the first three stages are passed where there are parts
-behind_parts : (rounds : ℕ) (s : List (List ℕ)) (parts : Parts) (o : Outcome) → HasParts rounds s parts
+behind_parts : (rounds : ℕ) (s : List (List ℕ)) (parts : ReplayInput) (o : CallOutcome) → HasReplayInput rounds s parts
     → OfParts rounds parts o → HostStage s (OfReplayedHost rounds s) o
 behind_parts rounds s parts o has rest = inr (
   parts.host,
@@ -256,7 +257,7 @@ behind_parts rounds s parts o has rest = inr (
 )
 
 -- an outcome of `replay`, by its stages
-replay_stages : (rounds : ℕ) (s : List (List ℕ)) (o : Outcome) → Replays rounds s o
+replay_stages : (rounds : ℕ) (s : List (List ℕ)) (o : CallOutcome) → Replays rounds s o
     → HostStage s (OfReplayedHost rounds s) o
 replay_stages rounds s o (Replays.Replayed parts course state made has run) =
     behind_parts rounds s parts _ has (inr (
@@ -314,7 +315,7 @@ one_course_stage h events = record {
 }
 
 -- a run of a course is one, or its refusal
-one_run : (rounds : ℕ) (parts : Parts) (course : CourseView)
+one_run : (rounds : ℕ) (parts : ReplayInput) (course : CourseView)
     → IsOne (IsRefusedOn rounds parts course) (IsRunOf rounds parts course)
 one_run rounds parts course = record {
   cause = λ at other off also.
@@ -332,7 +333,7 @@ one_run rounds parts course = record {
 }
 
 -- `replay` makes one outcome of its sections
-replay_only : (rounds : ℕ) (s : List (List ℕ)) (a b : Outcome)
+replay_only : (rounds : ℕ) (s : List (List ℕ)) (a b : CallOutcome)
     → Replays rounds s a → Replays rounds s b → a ≡ b
 replay_only rounds s a b of_a of_b = one_host_stage s (OfReplayedHost rounds s) a b (λ h is.
     one_staged _ _ _ (OfScript rounds s h) a b (one_script_stage rounds s h is) (λ events script.
@@ -346,12 +347,12 @@ replay_only rounds s a b of_a of_b = one_host_stage s (OfReplayedHost rounds s) 
 -- ---- the law
 
 -- a seed makes one text
-gen_only : (seed cores vcpus : ℕ) (a b : Outcome) → Gens seed cores vcpus a → Gens seed cores vcpus b → a ≡ b
+gen_only : (seed cores vcpus : ℕ) (a b : CallOutcome) → Gens seed cores vcpus a → Gens seed cores vcpus b → a ≡ b
 gen_only seed cores vcpus a b (Gens.Generated h is) (Gens.Generated other also) =
     ap (λ g. Writes (host_text g)) (one_generated seed cores vcpus h other is also)
 
 -- each command but `plan whole` has one outcome of an input
-pub one_outcome : (command : Command) (input : List ℕ) (one other : Outcome) → command ≢ called.PlanWhole
+pub one_outcome : (command : Command) (input : List ℕ) (one other : CallOutcome) → command ≢ called.PlanWhole
     → Replies command input one → Replies command input other → one ≡ other
 one_outcome called.Help input one other single = λ p q. p ∙ sym q
 one_outcome called.Version input one other single = λ p q. p ∙ sym q
@@ -370,7 +371,7 @@ one_outcome (called.Selftest seed) input one other single = λ p q. absurd p
 
 -- each input that is refused has no other outcome
 pub one_refusal : (command : Command) (input : List ℕ) (refusal : Status) (names : List (List ℕ))
-    (other : Outcome) → Replies command input (Refuses refusal names) → Replies command input other
+    (other : CallOutcome) → Replies command input (Refuses refusal names) → Replies command input other
     → Refuses refusal names ≡ other
 one_refusal called.PlanWhole input refusal names other p q =
     one_of_sections 1 PlansWhole input _ other (whole_only _ refusal names other) p q

@@ -14,7 +14,7 @@ use Rattle.plan_make.proofs.ListMembers.{all_from_places}
 use Rattle.period_choice.specs.Tasks.{AreTasksOf}
 use Rattle.plan_text.proofs.ReadBack.{read_back}
 use Rattle.plan_text.proofs.ReadingHeadLemmas.{names_of_host}
-use Rattle.plan_text.specs.Meaning.{AreLinesOf, worded}
+use Rattle.plan_text.specs.Meaning.{AreLinesOf}
 use Rattle.plan_text.specs.Written.{AreOfPlan, IsHostWithPlan}
 use Rattle.table_check.proofs.SegmentsOfRows.{good_shapes, rows_back}
 use Rattle.host_doc.specs.Document.{IsHostText}
@@ -22,10 +22,11 @@ use Rattle.plan_text.specs.PlanText.{plan_text}
 use Rattle.table_check.specs.Faults.{AreGood}
 use Rattle.tab_words.specs.Sections.{sections_of}
 use Rattle.tab_words.specs.declared.command.Command.TheVariants as called
+use Rattle.tab_words.specs.Texts.{worded}
 use Rattle.tableau_sim.specs.Clauses.{IsFaultless}
 use Rattle.tableau_sim.specs.Commands.{Replies}
 use Rattle.tableau_sim.specs.Check.{Checks, HasTasks}
-use Rattle.tableau_sim.specs.Outcomes.Outcome.{Refuses, Writes}
+use Rattle.tableau_sim.specs.Outcomes.CallOutcome.{Refuses, Writes}
 use Rattle.tableau_sim.specs.Plan.{Plans}
 use Rattle.tableau_sim.specs.PlanStay.{PlansStaying}
 use Rattle.tableau_sim.specs.PlanWhole.{PlansWhole}

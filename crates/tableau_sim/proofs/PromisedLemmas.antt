@@ -21,7 +21,7 @@ use Rattle.script_doc.specs.declared.event.Event.{Event}
 use Rattle.table_form.specs.Running.Courses.{CourseView}
 use Rattle.plan_promises.proofs.RunPromisesLemmas.{run_promises}
 use Rattle.round_words.specs.declared.view.View.{View}
-use Rattle.board_state.specs.Readings.{state_of}
+use Rattle.run_state.specs.Readings.{state_of}
 use Rattle.tableau_sim.specs.Clauses.{WroteFor}
 use Rattle.tableau_sim.specs.Promised.{HasRunAsPromised, HasTestedAsPromised, RanAsPromised, StatesHost}
 use Rattle.tableau_sim.specs.Run.{RunsWhole}

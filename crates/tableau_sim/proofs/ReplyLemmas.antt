@@ -4,7 +4,7 @@ use Rattle.std.proofs.KnownBytes.{Consumes-nil}
 use Rattle.std.specs.Io.KnownBytes.{Consumes}
 use Rattle.std.specs.Prelude.{IsErrOf, Vec}
 use Rattle.std.specs.declared.alloc.Global.{Global}
-use Rattle.tab_io.specs.Sources.{Ended, ReadsAll}
+use Rattle.tab_io.specs.Sources.{EndsReading, ReadsAll}
 use Rattle.tab_io.specs.Views.{SourceView, SinkView}
 use Rattle.tab_io.specs.declared.source.ReadAll.{ReadAll}
 use Rattle.tab_io.specs.declared.source.ReadAll.TheVariants as read
@@ -23,12 +23,12 @@ use Rattle.tableau_sim.specs.Commands.{IsStillCommand}
 use Rattle.tableau_sim.specs.Inside.Reply.{HasInput, HasNoInput, IsOff, IsReplyTo, Makes, StopsReading, outcome_in}
 use Rattle.tableau_sim.specs.Frame.{Answers, Due, HasReadIf, MayHaveReadIf, WritesReply}
 use Rattle.tableau_sim.specs.Frame.Due.{LacksMemory, NoCommand, Replied, SourceFailed, TooMuch}
-use Rattle.tableau_sim.specs.Outcomes.{Outcome}
+use Rattle.tableau_sim.specs.Outcomes.{CallOutcome}
 use Rattle.tableau_sim.specs.Sections.{OfSections}
 use Rattle.tableau_sim.specs.Sections.OfSections.{BadSections, Sectioned}
 
 -- the call replies and writes, and no more: its whole answer comes from these two
-pub answers_of : (R : Command → List ℕ → Outcome → Type 0) (Leaves : Due → List ℕ → Type 0) (words : List (List ℕ))
+pub answers_of : (R : Command → List ℕ → CallOutcome → Type 0) (Leaves : Due → List ℕ → Type 0) (words : List (List ℕ))
     (source source' : SourceView) (sink sink' : SinkView) (told : Status) (reply : Result Text Stop)
     → IsReplyTo R Leaves words source source' reply
     → WritesReply sink sink' (outcome_in reply) told → Answers R Leaves words source source' sink sink' told
@@ -42,7 +42,7 @@ answers_of R Leaves words source source' sink sink' told reply is written = reco
 }
 
 -- words that are no command: nothing is read
-pub usage_reply : (R : Command → List ℕ → Outcome → Type 0) (Leaves : Due → List ℕ → Type 0) (words : List (List ℕ))
+pub usage_reply : (R : Command → List ℕ → CallOutcome → Type 0) (Leaves : Due → List ℕ → Type 0) (words : List (List ℕ))
     (source : SourceView) (place : ℕ) → IsFaultAt words place
     → Leaves (NoCommand place) []
     → IsReplyTo R Leaves words source source (Err (stop.Refused (status.Usage place) None))
@@ -57,7 +57,7 @@ usage_reply R Leaves words source place fault still = record {
 }
 
 -- a command that has read what it wants: what it makes of that is due
-pub made_reply : (R : Command → List ℕ → Outcome → Type 0) (Leaves : Due → List ℕ → Type 0) (words : List (List ℕ))
+pub made_reply : (R : Command → List ℕ → CallOutcome → Type 0) (Leaves : Due → List ℕ → Type 0) (words : List (List ℕ))
     (old new : SourceView) (command : Command) (input : List ℕ) (reply : Result Text Stop)
     → IsCommand words command → Consumes old.rest new.rest input → old.faults ≤ new.faults
     → HasReadIf (reads command) new input → MayHaveReadIf (reads command) input
@@ -93,7 +93,7 @@ made_reply R Leaves words old new command input (Err stop.NoMemory) are consumed
 }
 
 -- a command that reads nothing
-pub unread_reply : (R : Command → List ℕ → Outcome → Type 0) (Leaves : Due → List ℕ → Type 0) (words : List (List ℕ))
+pub unread_reply : (R : Command → List ℕ → CallOutcome → Type 0) (Leaves : Due → List ℕ → Type 0) (words : List (List ℕ))
     (source : SourceView) (command : Command) (reply : Result Text Stop) → IsCommand words command
     → reads command ≡ false → (reply ≡ Err stop.NoMemory → (takes_memory command ≡ true) × Leaves (LacksMemory command) [])
     → Makes (R command []) reply → IsReplyTo R Leaves words source source reply
@@ -120,7 +120,7 @@ reads_unless (called.Selftest seed) still no_help no_version no_gen = absurd sti
 reads_unless other still no_help no_version no_gen = refl
 
 -- a command that has read its whole input
-pub input_reply : (R : Command → List ℕ → Outcome → Type 0) (Leaves : Due → List ℕ → Type 0) (words : List (List ℕ))
+pub input_reply : (R : Command → List ℕ → CallOutcome → Type 0) (Leaves : Due → List ℕ → Type 0) (words : List (List ℕ))
     (old new : SourceView) (command : Command) (input : List ℕ) (reply : Result Text Stop)
     → IsCommand words command → reads command ≡ true → HasInput old new input
     → (reply ≡ Err stop.NoMemory → Leaves (LacksMemory command) input) → Makes (R command input) reply
@@ -132,7 +132,7 @@ input_reply R Leaves words old new command input reply are reading has lacks h =
     (λ is. (reading_takes command reading, lacks is)) h
 
 -- why a command got no input is due
-stop_due : (R : Command → List ℕ → Outcome → Type 0) (Leaves : Due → List ℕ → Type 0) (words : List (List ℕ))
+stop_due : (R : Command → List ℕ → CallOutcome → Type 0) (Leaves : Due → List ℕ → Type 0) (words : List (List ℕ))
     (old new : SourceView) (command : Command) (input : List ℕ) (why : Stop) → IsCommand words command
     → reads command ≡ true → ((due : Due) → Leaves due input) → Consumes old.rest new.rest input → old.faults ≤ new.faults
     → HasNoInput old new input why → IsReplyTo R Leaves words old new (Err why)
@@ -169,7 +169,7 @@ stop_due R Leaves words old new command input why are reading still consumed lat
     }
 
 -- a command that got no input
-pub no_input_reply : (R : Command → List ℕ → Outcome → Type 0) (Leaves : Due → List ℕ → Type 0) (words : List (List ℕ))
+pub no_input_reply : (R : Command → List ℕ → CallOutcome → Type 0) (Leaves : Due → List ℕ → Type 0) (words : List (List ℕ))
     (old new : SourceView) (command : Command) (why : Stop) → IsCommand words command
     → reads command ≡ true → ((due : Due) (input : List ℕ) → Leaves due input) → StopsReading old new why → IsReplyTo R Leaves words old new (Err why)
 no_input_reply R Leaves words old new command why are reading still stops =
@@ -178,7 +178,7 @@ no_input_reply R Leaves words old new command why are reading still stops =
 -- ---- sections
 
 -- what is made of the sections is made of the input, where they are as many as wanted
-pub made_of_sections : (n : ℕ) (P : List (List ℕ) → Outcome → Type 0) (input : List ℕ)
+pub made_of_sections : (n : ℕ) (P : List (List ℕ) → CallOutcome → Type 0) (input : List ℕ)
     (reply : Result Text Stop) → length (sections_of input) ≡ n → Makes (P (sections_of input)) reply
     → Makes (OfSections n P input) reply
 made_of_sections n P input (Ok text) size h = (Sectioned _ size h.0, h.1)
@@ -186,7 +186,7 @@ made_of_sections n P input (Err (stop.Refused refusal host)) size h = Sectioned 
 made_of_sections n P input (Err stop.NoMemory) size h = tt {0}
 
 -- the refusal of the number of sections is made of the input, where they aren't as many as wanted
-pub off_sections : (n : ℕ) (P : List (List ℕ) → Outcome → Type 0) (input : List ℕ) (why : Stop)
+pub off_sections : (n : ℕ) (P : List (List ℕ) → CallOutcome → Type 0) (input : List ℕ) (why : Stop)
     → IsOff n input why → Makes (OfSections n P input) (Err why)
 off_sections n P input why is = subst (λ w. Makes (OfSections n P input) (Err w)) (sym is.why_is)
     (BadSections _ refl is.off)
@@ -197,7 +197,7 @@ off_sections n P input why is = subst (λ w. Makes (OfSections n P input) (Err w
 pub input_read : (old new : SourceView) (result : Result (Vec ℕ Global) ReadAll) (bytes : Vec ℕ Global)
     → ReadsAll old new INPUT_LIMIT result → result ≡ Ok bytes → HasInput old new bytes.items
 input_read old new result bytes all is =
-    let ended = subst (Ended old new INPUT_LIMIT all.bytes) is all.ended in
+    let ended = subst (EndsReading old new INPUT_LIMIT all.bytes) is all.ended in
     subst (HasInput old new) (sym ended.0) (record {
       consumed = all.consumed;
       later = all.later;
@@ -210,7 +210,7 @@ pub read_failed : (old new : SourceView) (result : Result (Vec ℕ Global) ReadA
     → ReadsAll old new INPUT_LIMIT result → result ≡ Err read.ReadFault
     → StopsReading old new (stop.Refused status.ReadFault None)
 read_failed old new result all is =
-    let ended = subst (Ended old new INPUT_LIMIT all.bytes) is all.ended in
+    let ended = subst (EndsReading old new INPUT_LIMIT all.bytes) is all.ended in
     record {
       input = all.bytes;
       consumed = all.consumed;
@@ -224,7 +224,7 @@ pub read_too_much : (old new : SourceView) (result : Result (Vec ℕ Global) Rea
     → ReadsAll old new INPUT_LIMIT result → result ≡ Err (read.TooLong at)
     → StopsReading old new (stop.Refused status.TooLong None)
 read_too_much old new result at all is =
-    let ended = subst (Ended old new INPUT_LIMIT all.bytes) is all.ended in
+    let ended = subst (EndsReading old new INPUT_LIMIT all.bytes) is all.ended in
     record {
       input = all.bytes;
       consumed = all.consumed;

@@ -10,18 +10,18 @@ use Rattle.round_words.specs.declared.view.View.{View}
 use Rattle.table_form.specs.Running.Courses.{CourseView, IsCourse}
 use Rattle.table_form.specs.Running.Invariant.{StateInvariant}
 use Rattle.table_form.specs.Running.State.{State}
-use Rattle.stint_limit.proofs.StintBoundLemmas.{all_stints}
+use Rattle.run_limit.proofs.StintBoundLemmas.{all_stints}
 use Rattle.burst_bound.specs.Reports.{BurstReportView, HasRoomFor}
-use Rattle.board_state.specs.Readings.{state_of}
+use Rattle.run_state.specs.Readings.{state_of}
 use Rattle.burst_bound.specs.KeptRuns.{IsKeptRun}
-use Rattle.course_run.specs.Inside.Keeping.{IsShort, StopsRun}
-use Rattle.course_run.specs.Runs.{IsRunOf, RanView, keeps_stints, kept_in, stints_of}
+use Rattle.run_course.specs.Inside.Keeping.{IsTraceWithinLimit, StopsRun}
+use Rattle.run_course.specs.Runs.{IsRunOf, RanView, keeps_stints, kept_in, stints_of}
 use Rattle.tab_io.specs.Views.{SourceView}
 use Rattle.tab_words.specs.Commands.{IsCommand}
 use Rattle.tab_words.specs.Sections.{sections_of}
 use Rattle.tab_words.specs.declared.command.Command.TheVariants as called
-use Rattle.course_run.specs.declared.keeping.RunFault.{RunFault}
-use Rattle.course_run.specs.declared.keeping.RunFault.TheVariants as fault
+use Rattle.run_course.specs.declared.keeping.RunFault.{RunFault}
+use Rattle.run_course.specs.declared.keeping.RunFault.TheVariants as fault
 use Rattle.tableau_sim.specs.declared.reply.Stop.{Stop}
 use Rattle.tableau_sim.specs.declared.reply.Stop.TheVariants as stop
 use Rattle.tableau_sim.specs.declared.reply.Text.{Text}
@@ -31,8 +31,8 @@ use Rattle.tableau_sim.specs.Frame.{Answers, WritesReply}
 use Rattle.tableau_sim.specs.Frame.Due.{LacksMemory, Replied}
 use Rattle.tableau_sim.specs.Inside.Reply.{HasInput, IsOff, Makes, outcome_in}
 use Rattle.tableau_sim.specs.Inside.Stops.{run_stop}
-use Rattle.tableau_sim.specs.Outcomes.{Outcome}
-use Rattle.tableau_sim.specs.Outcomes.Outcome.{Refuses, Writes}
+use Rattle.tableau_sim.specs.Outcomes.{CallOutcome}
+use Rattle.tableau_sim.specs.Outcomes.CallOutcome.{Refuses, Writes}
 use Rattle.tableau_sim.specs.Replay.{HasScript}
 use Rattle.tableau_sim.specs.Run.{Runs}
 use Rattle.tableau_sim.specs.Seats.{LeavesRun, LeavesSeat, OnSeat}
@@ -45,7 +45,7 @@ use Rattle.std.proofs.KnownBytes.{Consumes-nil}
 use Rattle.tableau_sim.specs.Inside.Running.{AnswersBy, HasBurstRoom}
 
 -- a reply that was written, over a seat that is as it was
-pub answered : (P : Outcome → Type 0) (Q : Type 0) (old new : View) (sink sink' : SinkView) (told : Status)
+pub answered : (P : CallOutcome → Type 0) (Q : Type 0) (old new : View) (sink sink' : SinkView) (told : Status)
     (reply : Result Text Stop) → Makes P reply → new ≡ old → Q → WritesReply sink sink' (outcome_in reply) told
     → AnswersBy P Q old new sink sink' told
 answered P Q old new sink sink' told (Ok text) makes same left written = record {
@@ -88,7 +88,7 @@ kept_run course rounds mode view ran is asked = record {
 
 -- there is room for a run that is made
 pub room_for : (course : CourseView) (rounds : ℕ) (mode : RunMode) (s : State) (events : List Event) (report : BurstReportView)
-    → IsCourse course → StateInvariant course rounds s → keeps_stints mode ≡ true → IsShort course rounds mode
+    → IsCourse course → StateInvariant course rounds s → keeps_stints mode ≡ true → IsTraceWithinLimit course rounds mode
     → HasBurstRoom course rounds events report → HasRoomFor rounds s events report
 room_for course rounds mode s events report kept invariant asked short room = record {
   rounds_fit = room.rounds_fit;
@@ -168,7 +168,7 @@ test_answers seed old new words source sink sink' told are by = elim by.is [
 ]
 
 -- running out of memory that leaves Q
-pub lacking : (P : Outcome → Type 0) (Q : Type 0) (old new : View) (sink sink' : SinkView) (told : Status) → Q
+pub lacking : (P : CallOutcome → Type 0) (Q : Type 0) (old new : View) (sink sink' : SinkView) (told : Status) → Q
     → WritesReply sink sink' (Refuses status.NoMemory []) told → AnswersBy P Q old new sink sink' told
 lacking P Q old new sink sink' told left written = record {
   outcome = Refuses status.NoMemory [];
@@ -177,7 +177,7 @@ lacking P Q old new sink sink' told left written = record {
 }
 
 -- an outcome that is no refusal
-pub wrote : (P : Outcome → Type 0) (Q : Type 0) (old new : View) (sink sink' : SinkView) (told : Status)
+pub wrote : (P : CallOutcome → Type 0) (Q : Type 0) (old new : View) (sink sink' : SinkView) (told : Status)
     (text : List ℕ) → P (Writes text) → WritesReply sink sink' (Writes text) told
     → AnswersBy P Q old new sink sink' told
 wrote P Q old new sink sink' told text made written = record {

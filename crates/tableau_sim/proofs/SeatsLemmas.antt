@@ -14,8 +14,8 @@ use Rattle.tableau_sim.specs.Columns.{reads}
 use Rattle.tableau_sim.specs.Commands.{AreStill, IsStillCommand, LeavesNothing, Replies}
 use Rattle.tableau_sim.specs.Frame.{Answers, Due, IsDue}
 use Rattle.tableau_sim.specs.Frame.Due.{LacksMemory, NoCommand, Replied, SourceFailed, TooMuch}
-use Rattle.tableau_sim.specs.Outcomes.{IsOfInput, Outcome, status_of}
-use Rattle.tableau_sim.specs.Outcomes.Outcome.{Refuses}
+use Rattle.tableau_sim.specs.Outcomes.{CallOutcome, IsOfInput, status_of}
+use Rattle.tableau_sim.specs.Outcomes.CallOutcome.{Refuses}
 use Rattle.tableau_sim.specs.Run.{Runs}
 use Rattle.tableau_sim.specs.Seats.{HasRun, HasTested, LeavesRun, LeavesSeat, OnSeat}
 use Rattle.tableau_sim.specs.Sections.{OfSections}
@@ -37,12 +37,12 @@ run_refuses rounds mode view sections refusal names (Runs.TraceTooLong host even
     tt {0}
 
 -- `selftest` writes a text
-selftest_writes : (seed : ℕ) (view : View) (outcome : Outcome) → Selftests seed view outcome
+selftest_writes : (seed : ℕ) (view : View) (outcome : CallOutcome) → Selftests seed view outcome
     → status_of outcome ≡ status.Ok
 selftest_writes seed view outcome (Selftests.Tested host book report is of whole reports) = refl
 
 -- the refusals of `selftest` are of its input: there are none
-selftest_refuses : (seed : ℕ) (view : View) (outcome : Outcome) (refusal : Status) (names : List (List ℕ))
+selftest_refuses : (seed : ℕ) (view : View) (outcome : CallOutcome) (refusal : Status) (names : List (List ℕ))
     → Selftests seed view outcome → outcome ≡ Refuses refusal names → IsOfInput refusal
 selftest_refuses seed view outcome refusal names (Selftests.Tested host book report is of whole reports) same =
     absurd cc
@@ -57,14 +57,14 @@ seat_refuses old new (called.Selftest seed) input refusal names h =
 seat_refuses old new other input refusal names h = refuses_input other input refusal names h.0
 
 -- a command that reads nothing refuses nothing, with a seat too
-pub seat_writes : (old new : View) (command : Command) (input : List ℕ) (outcome : Outcome)
+pub seat_writes : (old new : View) (command : Command) (input : List ℕ) (outcome : CallOutcome)
     → reads command ≡ false → OnSeat old new command input outcome → status_of outcome ≡ status.Ok
 seat_writes old new (called.Run rounds mode) input outcome still h = absurd cc
 seat_writes old new (called.Selftest seed) input outcome still h = selftest_writes seed new outcome h.0
 seat_writes old new other input outcome still h = writes_unread other input outcome still h.0
 
 -- what a command makes without a seat it makes with one that it leaves
-left_alone : (view : View) (command : Command) (input : List ℕ) (outcome : Outcome) → IsStillCommand command
+left_alone : (view : View) (command : Command) (input : List ℕ) (outcome : CallOutcome) → IsStillCommand command
     → Replies command input outcome → OnSeat view view command input outcome
 left_alone view (called.Run rounds mode) input outcome still h = absurd still
 left_alone view (called.Selftest seed) input outcome still h = absurd still
@@ -111,7 +111,7 @@ answers_with_seat view words source source' sink sink' told still a = record {
 -- ---- what `Ok` of a run tells
 
 -- the text of a run is that of a whole run
-run_has : (rounds : ℕ) (mode : RunMode) (view : View) (input : List ℕ) (outcome : Outcome)
+run_has : (rounds : ℕ) (mode : RunMode) (view : View) (input : List ℕ) (outcome : CallOutcome)
     (source source' : SourceView) → Consumes source.rest source'.rest input
     → status_of outcome ≡ status.Ok → Runs rounds mode view (sections_of input) outcome
     → HasRun rounds source source' view
@@ -135,7 +135,7 @@ run_has rounds mode view input _ source source' consumed ok
     (Runs.TraceTooLong host events book bound script is long) = absurd cc
 
 -- the text of a run is that of its input
-run_of : (rounds : ℕ) (mode : RunMode) (view : View) (input : List ℕ) (outcome : Outcome)
+run_of : (rounds : ℕ) (mode : RunMode) (view : View) (input : List ℕ) (outcome : CallOutcome)
     (source source' : SourceView) → Consumes source.rest source'.rest input
     → status_of outcome ≡ status.Ok → OfSections 2 (Runs rounds mode view) input outcome
     → HasRun rounds source source' view
@@ -151,7 +151,7 @@ ran_told old new rounds mode source source' sink sink' wrote =
     run_of rounds mode new wrote.input _ source source' wrote.read.consumed refl wrote.replies.0
 
 -- the clause `tested`
-test_of : (seed : ℕ) (view : View) (outcome : Outcome) → Selftests seed view outcome → HasTested seed view
+test_of : (seed : ℕ) (view : View) (outcome : CallOutcome) → Selftests seed view outcome → HasTested seed view
 test_of seed view outcome (Selftests.Tested host book report is of whole reports) =
     record { host = host; course = book.course; is = is; whole = whole }
 

@@ -7,15 +7,15 @@ use Rattle.host_doc.specs.Document.{IsHostText}
 use Rattle.host_doc.proofs.OneHost.{one_host}
 use Rattle.tableau_sim.specs.declared.status.Status.TheVariants as status
 use Rattle.tableau_sim.specs.Hosts.{IsHostFault}
-use Rattle.tableau_sim.specs.Outcomes.{Outcome}
-use Rattle.tableau_sim.specs.Outcomes.Outcome.{Refuses}
+use Rattle.tableau_sim.specs.Outcomes.{CallOutcome}
+use Rattle.tableau_sim.specs.Outcomes.CallOutcome.{Refuses}
 use Rattle.tableau_sim.specs.Sections.{OfSections, host_section}
 use Rattle.tableau_sim.specs.Sections.OfSections.{BadSections, Sectioned}
 use Rattle.tableau_sim.proofs.HostsLemmas.{no_host_fault, one_host_fault}
 
 -- the outcome of one stage
-abbrev pub Staged : {F X : Type 0} → (F → Type 0) → (F → Outcome) → (X → Type 0) → (X → Outcome → Type 0)
-    → Outcome → Type 0
+abbrev pub Staged : {F X : Type 0} → (F → Type 0) → (F → CallOutcome) → (X → Type 0) → (X → CallOutcome → Type 0)
+    → CallOutcome → Type 0
 Staged {F} {X} Bad refusal Good Then outcome =
     ((f : F) × Bad f × (outcome ≡ refusal f)) ⊎ ((x : X) × Good x × Then x outcome)
 
@@ -26,8 +26,8 @@ pub record IsOne {F X : Type 0} (Bad : F → Type 0) (Good : X → Type 0) : Typ
   pub apart : (f : F) (x : X) → Bad f → Good x → ⊥
 
 -- then the outcome is one where it is past the stage
-pub one_staged : {F X : Type 0} (Bad : F → Type 0) (refusal : F → Outcome) (Good : X → Type 0)
-    (Then : X → Outcome → Type 0) (a b : Outcome) → IsOne Bad Good
+pub one_staged : {F X : Type 0} (Bad : F → Type 0) (refusal : F → CallOutcome) (Good : X → Type 0)
+    (Then : X → CallOutcome → Type 0) (a b : CallOutcome) → IsOne Bad Good
     → ((x : X) → Good x → Then x a → Then x b → a ≡ b)
     → Staged Bad refusal Good Then a → Staged Bad refusal Good Then b → a ≡ b
 one_staged Bad refusal Good Then a b one next (inl p) (inl q) =
@@ -38,13 +38,13 @@ one_staged Bad refusal Good Then a b one next (inr p) (inr q) =
     next q.0 q.1 (subst (λ x. Then x a) (one.thing p.0 q.0 p.1 q.1) p.2) q.2
 
 -- the last stage writes what it makes of what was read
-abbrev pub Ends : {F X : Type 0} → (F → Type 0) → (F → Outcome) → (X → Type 0) → (X → Outcome)
-    → Outcome → Type 0
+abbrev pub Ends : {F X : Type 0} → (F → Type 0) → (F → CallOutcome) → (X → Type 0) → (X → CallOutcome)
+    → CallOutcome → Type 0
 Ends Bad refusal Good made = Staged Bad refusal Good (λ x outcome. outcome ≡ made x)
 
 -- nothing is left to show past the last stage
-pub one_end : {F X : Type 0} (Bad : F → Type 0) (refusal : F → Outcome) (Good : X → Type 0)
-    (made : X → Outcome) (a b : Outcome) → IsOne Bad Good → Ends Bad refusal Good made a
+pub one_end : {F X : Type 0} (Bad : F → Type 0) (refusal : F → CallOutcome) (Good : X → Type 0)
+    (made : X → CallOutcome) (a b : CallOutcome) → IsOne Bad Good → Ends Bad refusal Good made a
     → Ends Bad refusal Good made b → a ≡ b
 one_end Bad refusal Good made a b one = one_staged Bad refusal Good (λ x outcome. outcome ≡ made x) a b one
     (λ x good p q. p ∙ sym q)
@@ -58,7 +58,7 @@ same_pair {A} {B} x y first second =
 -- ---- the stages that commands share
 
 -- the number of sections is either as wanted or not
-pub one_of_sections : (n : ℕ) (P : List (List ℕ) → Outcome → Type 0) (input : List ℕ) (a b : Outcome)
+pub one_of_sections : (n : ℕ) (P : List (List ℕ) → CallOutcome → Type 0) (input : List ℕ) (a b : CallOutcome)
     → (P (sections_of input) a → P (sections_of input) b → a ≡ b)
     → OfSections n P input a → OfSections n P input b → a ≡ b
 one_of_sections n P input a b each (Sectioned _ size p) (Sectioned _ size' q) = each p q
@@ -68,12 +68,12 @@ one_of_sections n P input a b each (BadSections found is off) (BadSections found
     ap (λ k. Refuses (status.BadSections k n) []) (is ∙ sym is')
 
 -- the first section is a host or has a fault
-abbrev pub HostStage : List (List ℕ) → (Host → Outcome → Type 0) → Outcome → Type 0
+abbrev pub HostStage : List (List ℕ) → (Host → CallOutcome → Type 0) → CallOutcome → Type 0
 HostStage sections = Staged (IsHostFault (host_section sections)) (λ f. Refuses (status.Host f) [])
     (IsHostText (host_section sections))
 
 -- the first section is one host, or has one fault
-pub one_host_stage : (sections : List (List ℕ)) (Then : Host → Outcome → Type 0) (a b : Outcome)
+pub one_host_stage : (sections : List (List ℕ)) (Then : Host → CallOutcome → Type 0) (a b : CallOutcome)
     → ((h : Host) → IsHostText (host_section sections) h → Then h a → Then h b → a ≡ b)
     → HostStage sections Then a → HostStage sections Then b → a ≡ b
 one_host_stage sections Then a b = one_staged _ _ _ Then a b (record {

@@ -19,8 +19,8 @@ use Rattle.table_check.specs.declared.fault.CheckFault.TheVariants as tables
 use Rattle.script_doc.specs.declared.script_fault.ScriptFault.{ScriptFault}
 use Rattle.script_doc.specs.declared.script_fault.ScriptFault.TheVariants as script
 use Rattle.tableau_sim.specs.Hosts.{IsHostFault}
-use Rattle.tableau_sim.specs.Outcomes.{Outcome}
-use Rattle.tableau_sim.specs.Outcomes.Outcome.{Refuses}
+use Rattle.tableau_sim.specs.Outcomes.{CallOutcome}
+use Rattle.tableau_sim.specs.Outcomes.CallOutcome.{Refuses}
 use Rattle.host_doc.specs.Document.{IsHostText}
 use Rattle.script_doc.specs.ScriptFaults.{IsFirstFault}
 use Rattle.script_doc.specs.Statements.{statements_of}
@@ -29,7 +29,7 @@ use Rattle.tableau_sim.specs.Sections.{host_section}
 use Rattle.tableau_sim.specs.Inside.Stops.{IsHostStop, IsScriptStop, check_stop, plan_stop, script_stop, tasks_stop, whole_stop}
 
 -- where a section is no host, any command P that refuses it so makes the stop
-pub host_stopped : (P : Outcome → Type 0) (section : List ℕ) (why : Stop)
+pub host_stopped : (P : CallOutcome → Type 0) (section : List ℕ) (why : Stop)
     → ((bad : HostFault) → IsHostFault section bad → P (Refuses (status.Host bad) []))
     → IsHostStop section why → Makes P (Err why)
 host_stopped P section stop.NoMemory faulty h = tt {0}
@@ -38,14 +38,14 @@ host_stopped P section (stop.Refused (status.Host bad) host) faulty h =
 host_stopped P section (stop.Refused other host) faulty h = absurd h
 
 -- where a host has no tasks, any command P that refuses it so makes the stop
-pub tasks_stopped : (P : Outcome → Type 0) (host : Host) (f : TaskFault)
+pub tasks_stopped : (P : CallOutcome → Type 0) (host : Host) (f : TaskFault)
     → ((vcpu : ℕ) → f ≡ lacks.NoPeriod vcpu → P (Refuses (status.NoPeriod vcpu) (names_of host.vcpus)))
     → Makes P (Err (tasks_stop f host))
 tasks_stopped P host (lacks.NoPeriod vcpu) no_period = no_period vcpu refl
 tasks_stopped P host lacks.NoMemory no_period = tt {0}
 
 -- where a host has no plan, any command P that refuses it so makes the stop
-pub plan_stopped : (P : Outcome → Type 0) (host : Host) (f : PlanFault)
+pub plan_stopped : (P : CallOutcome → Type 0) (host : Host) (f : PlanFault)
     → ((vcpu : ℕ) → f ≡ fault.NoPeriod vcpu → P (Refuses (status.NoPeriod vcpu) (names_of host.vcpus)))
     → ((vcpu rest : ℕ) (over : List Over) → f ≡ fault.NoRoom vcpu rest over
     → P (Refuses (status.NoRoom vcpu rest over) (names_of host.vcpus)))
@@ -55,7 +55,7 @@ plan_stopped P host (fault.NoRoom vcpu rest over) no_period no_room = no_room vc
 plan_stopped P host fault.NoMemory no_period no_room = tt {0}
 
 -- where a host has no plan of all cores together, any command P that refuses it so makes the stop
-pub whole_stopped : (P : Outcome → Type 0) (host : Host) (f : WholeFault)
+pub whole_stopped : (P : CallOutcome → Type 0) (host : Host) (f : WholeFault)
     → ((vcpu : ℕ) → f ≡ whole.NoPeriod vcpu → P (Refuses (status.NoPeriod vcpu) (names_of host.vcpus)))
     → ((demand room : ℕ) → f ≡ whole.NoFit demand room → P (Refuses (status.NoFit demand room) []))
     → Makes P (Err (whole_stop f host))
@@ -64,7 +64,7 @@ whole_stopped P host (whole.NoFit demand room) no_period no_fit = no_fit demand 
 whole_stopped P host whole.NoMemory no_period no_fit = tt {0}
 
 -- where tables are no plan, any command P that refuses them so makes the stop
-pub check_stopped : (P : Outcome → Type 0) (host : Host) (f : CheckFault) (what : Type 0)
+pub check_stopped : (P : CallOutcome → Type 0) (host : Host) (f : CheckFault) (what : Type 0)
     → (what → P (Refuses (status.CheckNo f) (names_of host.vcpus)))
     → (f ≡ tables.NoMemory) ⊎ what → Makes P (Err (check_stop f host))
 check_stopped P host tables.NoMemory what faulty h = tt {0}
@@ -81,7 +81,7 @@ script_stops_it rounds sections host f is (inl lacks) = absurd cc
 script_stops_it rounds sections host f is (inr faulty) = (host, is, faulty, refl)
 
 -- where the first two sections are no host and script, any command P that refuses them so makes the stop
-pub script_stopped : (P : Outcome → Type 0) (rounds : ℕ) (sections : List (List ℕ)) (why : Stop)
+pub script_stopped : (P : CallOutcome → Type 0) (rounds : ℕ) (sections : List (List ℕ)) (why : Stop)
     → ((bad : HostFault) → IsHostFault (host_section sections) bad → P (Refuses (status.Host bad) []))
     → ((host : Host) (bad : ScriptFault) → IsHostText (host_section sections) host
     → IsFirstFault (names_of host.vcpus) rounds (statements_of (script_section sections)) bad

@@ -15,8 +15,8 @@ use Rattle.wrap_table.specs.declared.fault.WholeFault.{WholeFault}
 use Rattle.wrap_table.specs.declared.fault.WholeFault.TheVariants as whole
 use Rattle.tableau_sim.specs.declared.status.Status.{Status}
 use Rattle.tableau_sim.specs.declared.status.Status.TheVariants as status
-use Rattle.tableau_sim.specs.Outcomes.{Outcome}
-use Rattle.tableau_sim.specs.Outcomes.Outcome.{Refuses, Writes}
+use Rattle.tableau_sim.specs.Outcomes.{CallOutcome}
+use Rattle.tableau_sim.specs.Outcomes.CallOutcome.{Refuses, Writes}
 use Rattle.tableau_sim.specs.PlanWhole.{HasWholePlan, PlansWhole}
 use Rattle.tableau_sim.proofs.Stages.{Ends, HostStage, one_host_stage}
 
@@ -27,7 +27,7 @@ HasWholeFault h (whole.NoFit demand room) = IsBeyondRoom h demand room
 HasWholeFault h whole.NoMemory = ⊥
 
 -- how that is refused
-abbrev whole_refusal : Host → WholeFault → Outcome
+abbrev whole_refusal : Host → WholeFault → CallOutcome
 whole_refusal h (whole.NoPeriod vcpu) = Refuses (status.NoPeriod vcpu) (names_of h.vcpus)
 whole_refusal h (whole.NoFit demand room) = Refuses (status.NoFit demand room) []
 whole_refusal h whole.NoMemory = Refuses status.NoMemory []
@@ -66,12 +66,12 @@ whole_or_fault h p (whole.NoFit demand room) is bad =
 whole_or_fault h p whole.NoMemory is bad = bad
 
 -- what `plan whole` makes of a host
-abbrev OfWholeHost : Host → Outcome → Type 0
+abbrev OfWholeHost : Host → CallOutcome → Type 0
 OfWholeHost h = Ends (HasWholeFault h) (whole_refusal h) (HasWholePlan h)
     (λ p. Writes (plan_text (names_of h.vcpus) p))
 
 -- an outcome of it, by its stages
-whole_stages : (s : List (List ℕ)) (o : Outcome) → PlansWhole s o → HostStage s OfWholeHost o
+whole_stages : (s : List (List ℕ)) (o : CallOutcome) → PlansWhole s o → HostStage s OfWholeHost o
 whole_stages s o (PlansWhole.Planned h p is has) = inr (h, is, inr (p, has, refl))
 whole_stages s o (PlansWhole.BadHost f bad) = inl (f, bad, refl)
 whole_stages s o (PlansWhole.NoPeriod h vcpu is lacks) = inr (h, is, inl (whole.NoPeriod vcpu, lacks, refl))
@@ -79,7 +79,7 @@ whole_stages s o (PlansWhole.NoFit h demand room is beyond) =
     inr (h, is, inl (whole.NoFit demand room, beyond, refl))
 
 -- a refusal of a host is its only outcome
-whole_refused : (h : Host) (a b : Outcome) (refusal : Status) (names : List (List ℕ))
+whole_refused : (h : Host) (a b : CallOutcome) (refusal : Status) (names : List (List ℕ))
     → a ≡ Refuses refusal names → OfWholeHost h a → OfWholeHost h b → a ≡ b
 whole_refused h a b refusal names is (inl p) (inl q) =
     p.2 ∙ ap (whole_refusal h) (one_whole_fault h p.0 q.0 p.1 q.1) ∙ sym q.2
@@ -87,7 +87,7 @@ whole_refused h a b refusal names is (inl p) (inr q) = absurd (whole_or_fault h 
 whole_refused h a b refusal names is (inr p) q = let e = sym is ∙ p.2 in absurd cc
 
 -- a refusal of sections is their only outcome
-pub whole_only : (s : List (List ℕ)) (refusal : Status) (names : List (List ℕ)) (b : Outcome)
+pub whole_only : (s : List (List ℕ)) (refusal : Status) (names : List (List ℕ)) (b : CallOutcome)
     → PlansWhole s (Refuses refusal names) → PlansWhole s b → Refuses refusal names ≡ b
 whole_only s refusal names b of_a of_b = one_host_stage s OfWholeHost (Refuses refusal names) b
     (λ h is. whole_refused h (Refuses refusal names) b refusal names refl)

@@ -12,8 +12,8 @@ use Rattle.vcpu_names.specs.Names.{names_of}
 use Rattle.plan_text.specs.PlanText.{plan_text}
 use Rattle.tableau_sim.specs.declared.status.Status.TheVariants as status
 use Rattle.tableau_sim.specs.Hosts.{IsHostFault}
-use Rattle.tableau_sim.specs.Outcomes.{Outcome}
-use Rattle.tableau_sim.specs.Outcomes.Outcome.{Refuses, Writes}
+use Rattle.tableau_sim.specs.Outcomes.{CallOutcome}
+use Rattle.tableau_sim.specs.Outcomes.CallOutcome.{Refuses, Writes}
 use Rattle.tableau_sim.specs.Sections.{host_section}
 
 -- the host has this plan, which gives each of the host's tasks its cost in each of its periods, and
@@ -26,7 +26,7 @@ pub record HasPlan (host : Host) (plan : PlanView) : Type 0 where
   pub reservations : KeepsReservations host plan
 
 -- what `plan` makes of these sections: a plan's text, or a refusal with its cause
-pub data Plans (sections : List (List ℕ)) : Outcome → Type 0 where
+pub data Plans (sections : List (List ℕ)) : CallOutcome → Type 0 where
   Planned : (host : Host) (plan : PlanView) → IsHostText (host_section sections) host → HasPlan host plan
       → Plans sections (Writes (plan_text (names_of host.vcpus) plan))
   BadHost : (fault : HostFault) → IsHostFault (host_section sections) fault

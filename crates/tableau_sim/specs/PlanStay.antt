@@ -3,6 +3,7 @@
 use Rattle.std.specs.Prelude.{ℕ, List, [], Option}
 use Rattle.tab_core.specs.declared.host.Host.{Host}
 use Rattle.tab_core.specs.declared.over.Over.{Over}
+use Rattle.tab_words.specs.Texts.{worded}
 use Rattle.host_doc.specs.Document.{IsHostText}
 use Rattle.host_doc.specs.declared.fault.HostFault.{HostFault}
 use Rattle.table_form.specs.Tables.Plans.{IsPlan, IsPlanFor, PlanView}
@@ -11,15 +12,14 @@ use Rattle.plan_promises.specs.Reservations.{KeepsReservations}
 use Rattle.plan_make.specs.Planned.{IsFirstStayingWithoutRoom, IsStayingPlan}
 use Rattle.vcpu_names.specs.Names.{names_of}
 use Rattle.plan_text.specs.FirstBad.{IsFirstBadFor}
-use Rattle.plan_text.specs.Meaning.{worded}
 use Rattle.plan_text.specs.OldHomes.{AreOldHomes}
 use Rattle.plan_text.specs.OldText.{IsSomeOldText}
 use Rattle.plan_text.specs.PlanText.{plan_text}
 use Rattle.tableau_sim.specs.declared.status.Status.TheVariants as status
 use Rattle.tableau_sim.specs.Check.{plan_section}
 use Rattle.tableau_sim.specs.Hosts.{IsHostFault}
-use Rattle.tableau_sim.specs.Outcomes.{Outcome}
-use Rattle.tableau_sim.specs.Outcomes.Outcome.{Refuses, Writes}
+use Rattle.tableau_sim.specs.Outcomes.{CallOutcome}
+use Rattle.tableau_sim.specs.Outcomes.CallOutcome.{Refuses, Writes}
 use Rattle.tableau_sim.specs.Sections.{host_section}
 
 -- the first section is this host, and the second an earlier plan's text, which gives its vCPUs these homes
@@ -35,7 +35,7 @@ pub record HasStayingPlan (homes : List (Option ℕ)) (host : Host) (plan : Plan
   pub reservations : KeepsReservations host plan
 
 -- what `plan stay` makes of these sections: a plan's text, or a refusal with its cause
-pub data PlansStaying (sections : List (List ℕ)) : Outcome → Type 0 where
+pub data PlansStaying (sections : List (List ℕ)) : CallOutcome → Type 0 where
   Planned : (host : Host) (homes : List (Option ℕ)) (plan : PlanView) → HasOldHomes sections host homes
       → HasStayingPlan homes host plan → PlansStaying sections (Writes (plan_text (names_of host.vcpus) plan))
   BadHost : (fault : HostFault) → IsHostFault (host_section sections) fault

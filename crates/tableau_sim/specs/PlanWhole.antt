@@ -11,8 +11,8 @@ use Rattle.vcpu_names.specs.Names.{names_of}
 use Rattle.plan_text.specs.PlanText.{plan_text}
 use Rattle.tableau_sim.specs.declared.status.Status.TheVariants as status
 use Rattle.tableau_sim.specs.Hosts.{IsHostFault}
-use Rattle.tableau_sim.specs.Outcomes.{Outcome}
-use Rattle.tableau_sim.specs.Outcomes.Outcome.{Refuses, Writes}
+use Rattle.tableau_sim.specs.Outcomes.{CallOutcome}
+use Rattle.tableau_sim.specs.Outcomes.CallOutcome.{Refuses, Writes}
 use Rattle.tableau_sim.specs.Sections.{host_section}
 
 -- the plan lays out an allotment of the host's tasks, gives each of them its cost in each of its periods,
@@ -25,7 +25,7 @@ pub record HasWholePlan (host : Host) (plan : PlanView) : Type 0 where
   pub reservations : KeepsReservations host plan
 
 -- a host may have several such plans, and the text is that of one of them
-pub data PlansWhole (sections : List (List ℕ)) : Outcome → Type 0 where
+pub data PlansWhole (sections : List (List ℕ)) : CallOutcome → Type 0 where
   Planned : (host : Host) (plan : PlanView) → IsHostText (host_section sections) host
       → HasWholePlan host plan → PlansWhole sections (Writes (plan_text (names_of host.vcpus) plan))
   BadHost : (fault : HostFault) → IsHostFault (host_section sections) fault

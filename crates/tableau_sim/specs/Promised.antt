@@ -21,8 +21,8 @@ use Rattle.plan_promises.specs.Histories.{IsHistory}
 use Rattle.plan_promises.specs.RunPromises.{RunPromises}
 use Rattle.host_gen.specs.Generated.{IsGenerated}
 use Rattle.round_words.specs.declared.view.View.{View}
-use Rattle.board_state.specs.Readings.{state_of}
-use Rattle.board_state.specs.RunViews.{HoldsAllParts}
+use Rattle.run_state.specs.Readings.{state_of}
+use Rattle.run_state.specs.RunViews.{HoldsAllParts}
 use Rattle.tableau_sim.specs.Replay.{script_section}
 use Rattle.tableau_sim.specs.Sections.{host_section}
 

@@ -28,8 +28,8 @@ use Rattle.tableau_sim.specs.declared.status.Status.TheVariants as status
 use Rattle.plan_book.specs.Courses.{IsCourseOf}
 use Rattle.plan_promises.specs.Runs.{RunKeepsReservations}
 use Rattle.tableau_sim.specs.Hosts.{IsHostFault}
-use Rattle.tableau_sim.specs.Outcomes.{Outcome}
-use Rattle.tableau_sim.specs.Outcomes.Outcome.{Refuses, Writes}
+use Rattle.tableau_sim.specs.Outcomes.{CallOutcome}
+use Rattle.tableau_sim.specs.Outcomes.CallOutcome.{Refuses, Writes}
 use Rattle.tableau_sim.specs.Sections.{host_section}
 
 -- the section of the script, which is the second
@@ -41,7 +41,7 @@ abbrev pub steps_section : List (List ℕ) → List ℕ
 steps_section sections = slice_index_or sections 2 []
 
 -- a host, the events of a script, and steps with the lines that they are on
-pub record Parts : Type 0 where
+pub record ReplayInput : Type 0 where
   pub host : Host
   pub events : List Event
   pub steps : List Step
@@ -53,14 +53,14 @@ pub record HasScript (rounds : ℕ) (sections : List (List ℕ)) (host : Host) (
   pub is_script : IsScript (names_of host.vcpus) rounds (statements_of (script_section sections)) events
 
 -- the three sections are this host, this script of it and these steps, for a run of so many rounds
-pub record HasParts (rounds : ℕ) (sections : List (List ℕ)) (parts : Parts) : Type 0 where
+pub record HasReplayInput (rounds : ℕ) (sections : List (List ℕ)) (parts : ReplayInput) : Type 0 where
   pub script : HasScript rounds sections parts.host parts.events
   pub are_steps : AreSteps parts.host.cores (statements_of (steps_section sections)) parts.steps parts.lines
 
 -- all steps are allowed, one after the other, from the opening of the course that the script makes of
 -- the host, and lead to this state; it keeps what every run promises, and the steps made these entries
 -- and stints, in their order
-pub record RunsTo (rounds : ℕ) (parts : Parts) (course : CourseView) (state : State)
+pub record RunsTo (rounds : ℕ) (parts : ReplayInput) (course : CourseView) (state : State)
     (made : List Made) : Type 0 where
   pub course_is : IsCourseOf parts.host parts.events course
   pub leads : Leads course rounds (opening course.cores) parts.steps state
@@ -71,7 +71,7 @@ pub record RunsTo (rounds : ℕ) (parts : Parts) (course : CourseView) (state : 
 
 -- the step on this line is the first that isn't done, with this answer, in a run of the course that
 -- the script makes of the host
-pub record IsStepRefused (rounds : ℕ) (parts : Parts) (line : ℕ) (answer : Answer) : Type 0 where
+pub record IsStepRefused (rounds : ℕ) (parts : ReplayInput) (line : ℕ) (answer : Answer) : Type 0 where
   pub course : CourseView
   pub course_is : IsCourseOf parts.host parts.events course
   pub course_kept : IsCourse course
@@ -80,9 +80,9 @@ pub record IsStepRefused (rounds : ℕ) (parts : Parts) (line : ℕ) (answer : A
   pub refused : IsRefused course rounds parts.steps place answer
 
 -- what `replay` makes of so many rounds and of these sections: a run's text, or a refusal with its cause
-pub data Replays (rounds : ℕ) (sections : List (List ℕ)) : Outcome → Type 0 where
-  Replayed : (parts : Parts) (course : CourseView) (state : State) (made : List Made)
-      → HasParts rounds sections parts → RunsTo rounds parts course state made
+pub data Replays (rounds : ℕ) (sections : List (List ℕ)) : CallOutcome → Type 0 where
+  Replayed : (parts : ReplayInput) (course : CourseView) (state : State) (made : List Made)
+      → HasReplayInput rounds sections parts → RunsTo rounds parts course state made
       → Replays rounds sections (Writes (replay_text (names_of parts.host.vcpus) course made state.posted))
   BadHost : (fault : HostFault) → IsHostFault (host_section sections) fault
       → Replays rounds sections (Refuses (status.Host fault) [])
@@ -92,12 +92,12 @@ pub data Replays (rounds : ℕ) (sections : List (List ℕ)) : Outcome → Type 
   BadStep : (host : Host) (events : List Event) (line : ℕ) → HasScript rounds sections host events
       → IsFirstBadLine host.cores (statements_of (steps_section sections)) line
       → Replays rounds sections (Refuses (status.BadStep line) [])
-  NoPeriod : (parts : Parts) (vcpu : ℕ) → HasParts rounds sections parts
+  NoPeriod : (parts : ReplayInput) (vcpu : ℕ) → HasReplayInput rounds sections parts
       → IsFirstWithoutPeriod parts.host vcpu
       → Replays rounds sections (Refuses (status.NoPeriod vcpu) (names_of parts.host.vcpus))
-  NoRoom : (parts : Parts) (vcpu rest : ℕ) (over : List Over) → HasParts rounds sections parts
+  NoRoom : (parts : ReplayInput) (vcpu rest : ℕ) (over : List Over) → HasReplayInput rounds sections parts
       → IsFirstWithoutRoom parts.host vcpu rest over
       → Replays rounds sections (Refuses (status.NoRoom vcpu rest over) (names_of parts.host.vcpus))
-  StepRefused : (parts : Parts) (line : ℕ) (answer : Answer) → HasParts rounds sections parts
+  StepRefused : (parts : ReplayInput) (line : ℕ) (answer : Answer) → HasReplayInput rounds sections parts
       → IsStepRefused rounds parts line answer
       → Replays rounds sections (Refuses (status.StepRefused line answer) [])

@@ -22,19 +22,19 @@ use Rattle.table_form.specs.Running.Complete.{IsComplete}
 use Rattle.table_form.specs.Promises.Run.{KeepsPromises}
 use Rattle.dispatch_core.specs.Parts.{IsOfOutline}
 use Rattle.round_words.specs.declared.view.View.{View}
-use Rattle.board_state.specs.Readings.{state_of}
-use Rattle.board_state.specs.RunViews.{HoldsAllParts}
+use Rattle.run_state.specs.Readings.{state_of}
+use Rattle.run_state.specs.RunViews.{HoldsAllParts}
 use Rattle.trace_report.specs.ReportViews.{ReportView}
 use Rattle.burst_bound.specs.Reports.{AreBurstAnswers}
 use Rattle.burst_bound.specs.BurstText.{bursts_text}
 use Rattle.burst_bound.specs.declared.answer.BurstAnswer.{BurstAnswer}
-use Rattle.course_run.specs.Changes.{changes_of}
-use Rattle.course_run.specs.Runs.{IsReportOfState, IsTooLong, stints_at}
-use Rattle.course_run.specs.RunText.{run_text}
+use Rattle.run_course.specs.Changes.{changes_of}
+use Rattle.run_course.specs.Runs.{IsReportOfState, IsTooLong, stints_at}
+use Rattle.run_course.specs.RunText.{run_text}
 use Rattle.tableau_sim.specs.declared.status.Status.TheVariants as status
 use Rattle.tableau_sim.specs.Hosts.{IsHostFault}
-use Rattle.tableau_sim.specs.Outcomes.{Outcome}
-use Rattle.tableau_sim.specs.Outcomes.Outcome.{Refuses, Writes}
+use Rattle.tableau_sim.specs.Outcomes.{CallOutcome}
+use Rattle.tableau_sim.specs.Outcomes.CallOutcome.{Refuses, Writes}
 use Rattle.tableau_sim.specs.Replay.{HasScript, script_section}
 use Rattle.tableau_sim.specs.Sections.{host_section}
 
@@ -67,7 +67,7 @@ burst_part Live host events answers = []
 
 -- what `run` makes of so many rounds and of these sections in a mode, for a run of this view: a text,
 -- or a refusal with its cause
-pub data Runs (rounds : ℕ) (mode : RunMode) (view : View) (sections : List (List ℕ)) : Outcome → Type 0 where
+pub data Runs (rounds : ℕ) (mode : RunMode) (view : View) (sections : List (List ℕ)) : CallOutcome → Type 0 where
   Ran : (host : Host) (events : List Event) (book : BookView) (report : ReportView) (answers : List BurstAnswer)
       → HasScript rounds sections host events → IsBookOf host events book
       → RunsWhole rounds host events book.course view

@@ -12,24 +12,24 @@ use Rattle.tab_words.specs.declared.command.Command.TheVariants as command
 use Rattle.tab_words.specs.declared.command.RunMode.{RunMode}
 use Rattle.tab_words.specs.declared.command.RunMode.TheVariants.{Live}
 use Rattle.round_words.specs.declared.view.View.{View}
-use Rattle.live_run.specs.LiveRuns.{RunsSoFar}
+use Rattle.run_live.specs.LiveRuns.{RunsSoFar}
 use Rattle.tableau_sim.specs.Commands.{Replies}
 use Rattle.tableau_sim.specs.Frame.{Due}
 use Rattle.tableau_sim.specs.Frame.Due.{LacksMemory}
-use Rattle.tableau_sim.specs.Outcomes.{Outcome}
-use Rattle.tableau_sim.specs.Outcomes.Outcome.{Refuses, Writes}
+use Rattle.tableau_sim.specs.Outcomes.{CallOutcome}
+use Rattle.tableau_sim.specs.Outcomes.CallOutcome.{Refuses, Writes}
 use Rattle.tableau_sim.specs.Replay.{HasScript}
 use Rattle.tableau_sim.specs.Run.{Runs, RunsWhole}
 use Rattle.tableau_sim.specs.Sections.{OfSections}
 use Rattle.tableau_sim.specs.Selftest.{Selftests}
 
 -- where a run is refused, it hasn't begun
-abbrev pub IsStillIfRefused : View → View → Outcome → Type 0
+abbrev pub IsStillIfRefused : View → View → CallOutcome → Type 0
 IsStillIfRefused old new (Refuses refusal names) = new ≡ old
 IsStillIfRefused old new (Writes text) = Unit {0}
 
 -- the commands that start threads, and all others as without a seat
-abbrev pub OnSeat : View → View → Command → List ℕ → Outcome → Type 0
+abbrev pub OnSeat : View → View → Command → List ℕ → CallOutcome → Type 0
 OnSeat old new (command.Run rounds mode) input outcome =
     OfSections 2 (Runs rounds mode new) input outcome × IsStillIfRefused old new outcome
 OnSeat old new (command.Selftest seed) input outcome =

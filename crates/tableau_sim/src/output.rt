@@ -4,7 +4,7 @@ ghost use Rattle.tab_io.specs.Views.{SinkView};
 ghost use Rattle.vcpu_names.specs.Names.{names_of};
 ghost use Rattle.tableau_sim.specs.Inside.Reply.{CanBeWritten, IsWritable, bytes_of, names_in, outcome_in};
 ghost use Rattle.tableau_sim.specs.Frame.{WritesReply};
-ghost use Rattle.tableau_sim.specs.Outcomes.{Outcome, status_of, text_of};
+ghost use Rattle.tableau_sim.specs.Outcomes.{CallOutcome, status_of, text_of_outcome};
 
 use crate::help::{HELP, VERSION};
 use crate::line::put_line;
@@ -27,7 +27,7 @@ pub(crate) fn write_reply<K: Sink>(output: &mut K, reply: Reply) -> Status
 
 // Settles a text that was put, if that came whole, and says how it ended: done, or with a write fault.
 pub(crate) fn settle<K: Sink>(output: &mut K, put: Result<(), WriteFault>, done: Status) -> Status
-    ensures { (before : SinkView) (due : Outcome) → Writes before (K.state output.old) (text_of due) put
+    ensures { (before : SinkView) (due : CallOutcome) → Writes before (K.state output.old) (text_of_outcome due) put
         → done ≡ status_of due → WritesReply before (K.state output.new) due result }
 {
     if let Err(_fault) = put {
@@ -42,7 +42,7 @@ pub(crate) fn settle<K: Sink>(output: &mut K, put: Result<(), WriteFault>, done:
 fn put_reply<K: Sink>(output: &mut K, reply: &Reply) -> Result<(), WriteFault>
     requires { CanBeWritten reply.now }
     ensures { Writes (K.state output.old) (K.state output.new)
-        (text_of (outcome_in reply.now)) result }
+        (text_of_outcome (outcome_in reply.now)) result }
 {
     match reply {
         Ok(text) => put_text(output, text),

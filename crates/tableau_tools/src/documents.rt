@@ -1,7 +1,7 @@
 //! The documents of the hosts of a fleet.
 ghost use Rattle.std.specs.Prelude.{◌≡◌, ◌≤◌, All, IfOk, IsSome};
 ghost use Rattle.tab_core.specs.declared.TheConstants.{MAX_TICK_NS, MIN_TICK_NS};
-ghost use Rattle.sizes_doc.specs.SizedHost.{IsHostOf};
+ghost use Rattle.sizes_doc.specs.SizedHost.{IsHostOfSizes};
 ghost use Rattle.fleet_place.specs.Held.{sizes_in};
 
 use crate::fault::Fault;
@@ -60,7 +60,7 @@ fn documents_of(
 fn document_of(alloc: Global, tick_ns: u32, host: &FleetHost<'_>) -> Result<Document, Fault>
     requires least_tick { MIN_TICK_NS ≤ tick_ns }
     requires most_tick { tick_ns ≤ MAX_TICK_NS }
-    ensures { IfOk result (λ document. IsHostOf host.now.cores tick_ns (sizes_in host.now.vms) document.host) }
+    ensures { IfOk result (λ document. IsHostOfSizes host.now.cores tick_ns (sizes_in host.now.vms) document.host) }
 {
     let sizes = sizes_of(alloc, host.vms())?;
     match host_of_sizes(alloc, host.cores(), tick_ns, &sizes) {

@@ -7,12 +7,12 @@ use crate::output::{finish, output_of};
 use crate::plan::host_of;
 use crate::shown::{place_of, shown};
 use clap::ArgMatches;
+use host_judge::{JudgeFault, Report, judge_trace};
 use std::alloc::Global;
 use std::fs;
 use std::io::Read;
 use tab_core::Vcpu;
 use tab_io::StdSource;
-use trace_judge::{JudgeFault, Report, judge_trace};
 use view_judge::{is_kept, write_json, write_tables};
 
 // Nanoseconds of a millisecond.

@@ -8,14 +8,14 @@ use crate::output::{finish, output_of};
 use crate::plan::{host_of, plan_of};
 use crate::unkept::Refusal;
 use clap::ArgMatches;
-use host_lines::{
-    Scheduler, Unkept, unkept_of, unlike_of, write_cgroup, write_deadline, write_libvirt,
-    write_rtds,
-};
 use tab_core::Vcpu;
 use tab_io::{Sink, WriteFault};
 use tab_words::cut_sections;
 use view_doc::View;
+use view_schedulers::{
+    Scheduler, Unkept, unkept_of, unlike_of, write_cgroup, write_deadline, write_libvirt,
+    write_rtds,
+};
 
 /// What the lines are for.
 #[derive(Clone, Copy)]

@@ -1,9 +1,9 @@
 use crate::shown::shown;
-use host_lines::Unkept;
 use std::alloc::{AllocError, Global};
 use std::fmt;
 use tab_core::VcpuNo;
 use view_doc::View;
+use view_schedulers::Unkept;
 
 /// Why the vCPUs of a plan aren't put on a scheduler, with the name of the vCPU, if it is one's.
 #[derive(Debug, Drop)]

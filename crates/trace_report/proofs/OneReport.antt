@@ -3,7 +3,7 @@ use Rattle.std.proofs.Common.{◌≡◌, ℕ, ◌<◌, List, length, ap, sym, �
 use Rattle.std.proofs.lemmas.List.{get_or_default, same_lists}
 use Rattle.dispatch_core.specs.declared.account.CoreAccount.{CoreAccount}
 use Rattle.table_form.specs.Running.Courses.{CourseView}
-use Rattle.report_counts.proofs.OneReport.{one_report}
+use Rattle.run_counts.proofs.OneReport.{one_report}
 use Rattle.trace_report.specs.ReportViews.{ReportView, no_vcpu_ticks, vcpu_at}
 use Rattle.trace_report.specs.RunReports.{IsReportOf, IsVcpuTold}
 use Rattle.trace_report.specs.declared.ticks.VcpuTicks.{VcpuTicks}

@@ -7,7 +7,7 @@ use Rattle.std.proofs.lemmas.List.Sums.{sum_by-append}
 use Rattle.dispatch_core.specs.declared.account.CoreAccount.{CoreAccount}
 use Rattle.table_form.specs.Running.Courses.{CourseView}
 use Rattle.trace_report.specs.ReportViews.{ReportView, no_core_ticks}
-use Rattle.trace_report.specs.RunReports.{IsAdded, IsFilled, IsReportOf, IsReportSoFar, IsVcpuTold, core_ticks}
+use Rattle.trace_report.specs.RunReports.{IsAccountAdded, IsFilled, IsReportOf, IsReportSoFar, IsVcpuTold, core_ticks}
 
 -- no account is added yet
 pub begun : (course : CourseView) (used : List ℕ) (report : ReportView) → IsFilled course used report
@@ -35,7 +35,7 @@ take_set (y ∷ ys) (suc n) x lt = ap (λ zs. y ∷ zs) (take_set ys n x (omega 
 pub more : (course : CourseView) (used : List ℕ) (accounts : List CoreAccount) (account : CoreAccount)
     (old new : ReportView)
     → IsReportSoFar course used accounts old → length accounts < course.cores
-    → IsAdded (length accounts) account old new
+    → IsAccountAdded (length accounts) account old new
     → IsReportSoFar course used (accounts ++ account ∷ []) new
 more course used accounts account old new so_far lt added = record {
   plans = added.plans ∙ so_far.plans;

@@ -3,12 +3,12 @@ use Rattle.std.specs.Prelude.{ℕ, List, [], ◌∷◌, ◌++◌, codes, decimal
 use Rattle.tab_core.specs.declared.host.Host.{Host}
 use Rattle.tab_words.specs.Texts.{line_of, texts_below}
 use Rattle.vcpu_names.specs.Names.{name_at, names_of}
-use Rattle.report_counts.specs.declared.round_plan.RoundPlan.{RoundPlan}
+use Rattle.run_counts.specs.declared.round_plan.RoundPlan.{RoundPlan}
 use Rattle.plan_book.specs.declared.outcome.Outcome.{Outcome}
 use Rattle.plan_book.specs.declared.outcome.Outcome.TheVariants.{Planned, NoPeriod, NoRoom}
 use Rattle.trace_report.specs.declared.ticks.VcpuTicks.{VcpuTicks}
 use Rattle.trace_report.specs.declared.ticks.CoreTicks.{CoreTicks}
-use Rattle.trace_report.specs.ReportViews.{ReportView, core_at, vcpu_at}
+use Rattle.trace_report.specs.ReportViews.{ReportView, core_ticks_at, vcpu_at}
 
 -- the first line: how many rounds, cores and events the run has
 unfoldable pub run_line : ℕ → ℕ → ℕ → List ℕ
@@ -65,5 +65,5 @@ report_text host changes events rounds report =
     ++ (flat_map round_line report.plans
     ++ (texts_below (λ v. vcpu_line (name_at (names_of host.vcpus) v) (vcpu_at report.vcpus v))
     (length host.vcpus)
-    ++ (texts_below (λ c. core_line c (core_at report.cores c)) host.cores
+    ++ (texts_below (λ c. core_line c (core_ticks_at report.cores c)) host.cores
     ++ done_line))))

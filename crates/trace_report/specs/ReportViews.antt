@@ -1,6 +1,6 @@
 -- A report as contracts see it.
 use Rattle.std.specs.Prelude.{ℕ, List, slice_index_or}
-use Rattle.report_counts.specs.declared.round_plan.RoundPlan.{RoundPlan}
+use Rattle.run_counts.specs.declared.round_plan.RoundPlan.{RoundPlan}
 use Rattle.trace_report.specs.declared.ticks.VcpuTicks.{VcpuTicks}
 use Rattle.trace_report.specs.declared.ticks.CoreTicks.{CoreTicks}
 
@@ -36,5 +36,5 @@ abbrev pub vcpu_at : List VcpuTicks → ℕ → VcpuTicks
 vcpu_at vcpus v = slice_index_or vcpus v no_vcpu_ticks
 
 -- what is reported of a core, in a list by core number
-abbrev pub core_at : List CoreTicks → ℕ → CoreTicks
-core_at cores c = slice_index_or cores c no_core_ticks
+abbrev pub core_ticks_at : List CoreTicks → ℕ → CoreTicks
+core_ticks_at cores c = slice_index_or cores c no_core_ticks

@@ -3,21 +3,21 @@
 use Rattle.std.specs.Prelude.{◌≡◌, ℕ, zero, suc, ◌+◌, ◌<◌, ◌≤◌, List, [], length, map, set, slice_index, sum_by, take, replicate}
 use Rattle.tab_core.specs.declared.TheConstants.{MAX_VCPUS}
 use Rattle.table_form.specs.Running.Courses.{CourseView, plan_after}
-use Rattle.report_counts.specs.Reports.{IsReported}
-use Rattle.report_counts.specs.RoundPlans.{round_plans_of}
+use Rattle.run_counts.specs.Reports.{IsReported}
+use Rattle.run_counts.specs.RoundPlans.{round_plans_of}
 use Rattle.dispatch_core.specs.declared.account.CoreAccount.{CoreAccount}
 use Rattle.trace_report.specs.ReportViews.{ReportView, no_core_ticks, no_vcpu_ticks, vcpu_at}
 use Rattle.trace_report.specs.declared.ticks.VcpuTicks.{VcpuTicks}
 use Rattle.trace_report.specs.declared.ticks.CoreTicks.{CoreTicks}
 
 -- how many vCPUs the course's host has: each plan has a place for each
-abbrev pub vcpus_of : CourseView → ℕ
-vcpus_of course = length (plan_after course 0).tasks
+abbrev pub vcpu_count : CourseView → ℕ
+vcpu_count course = length (plan_after course 0).tasks
 
 -- the report has a place for each vCPU and each core, and room for so many rounds
 pub record HasRoom (course : CourseView) (rounds : ℕ) (report : ReportView) : Type 0 where
   pub rounds_fit : rounds ≤ report.room
-  pub each_vcpu : length report.vcpus ≡ vcpus_of course
+  pub each_vcpu : length report.vcpus ≡ vcpu_count course
   pub each_core : length report.cores ≡ course.cores
 
 -- nothing is reported yet
@@ -39,7 +39,7 @@ pub record IsVcpuCounted (course : CourseView) (used : List ℕ) (v : ℕ) (t : 
 -- the report of a run's rounds, which have these used counts, without any core's account
 pub record IsFilled (course : CourseView) (used : List ℕ) (report : ReportView) : Type 0 where
   pub plans : report.plans ≡ round_plans_of course used
-  pub each_vcpu : length report.vcpus ≡ vcpus_of course
+  pub each_vcpu : length report.vcpus ≡ vcpu_count course
   pub vcpus : (v : ℕ) → v < length report.vcpus → IsVcpuCounted course used v (vcpu_at report.vcpus v)
   pub cores : report.cores ≡ replicate course.cores no_core_ticks
   pub added : report.added ≡ 0
@@ -68,7 +68,7 @@ with_account t a v = record t {
 }
 
 -- the new report has the core's account more than the old one
-pub record IsAdded (core : ℕ) (account : CoreAccount) (old new : ReportView) : Type 0 where
+pub record IsAccountAdded (core : ℕ) (account : CoreAccount) (old new : ReportView) : Type 0 where
   pub plans : new.plans ≡ old.plans
   pub each_vcpu : length new.vcpus ≡ length old.vcpus
   pub vcpus : (v : ℕ) → v < length old.vcpus
@@ -91,7 +91,7 @@ pub record IsVcpuTold (course : CourseView) (used : List ℕ) (accounts : List C
 pub record IsReportSoFar (course : CourseView) (used : List ℕ) (accounts : List CoreAccount)
     (report : ReportView) : Type 0 where
   pub plans : report.plans ≡ round_plans_of course used
-  pub each_vcpu : length report.vcpus ≡ vcpus_of course
+  pub each_vcpu : length report.vcpus ≡ vcpu_count course
   pub vcpus : (v : ℕ) → v < length report.vcpus → IsVcpuTold course used accounts v (vcpu_at report.vcpus v)
   pub each_core : length report.cores ≡ course.cores
   pub cores : take (length accounts) report.cores ≡ map core_ticks accounts
@@ -100,6 +100,6 @@ pub record IsReportSoFar (course : CourseView) (used : List ℕ) (accounts : Lis
 pub record IsReportOf (course : CourseView) (used : List ℕ) (accounts : List CoreAccount)
     (report : ReportView) : Type 0 where
   pub plans : report.plans ≡ round_plans_of course used
-  pub each_vcpu : length report.vcpus ≡ vcpus_of course
+  pub each_vcpu : length report.vcpus ≡ vcpu_count course
   pub vcpus : (v : ℕ) → v < length report.vcpus → IsVcpuTold course used accounts v (vcpu_at report.vcpus v)
   pub cores : report.cores ≡ map core_ticks accounts

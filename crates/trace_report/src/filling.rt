@@ -1,10 +1,10 @@
 ghost use Rattle.std.specs.Prelude.{◌≡◌, ◌<◌, ◌≤◌, ℕ, length, replicate};
-ghost use Rattle.report_counts.specs.Stretches.{stretch_at};
+ghost use Rattle.run_counts.specs.Stretches.{stretch_at};
 ghost use Rattle.trace_report.specs.Inside.Sound.{counted};
 ghost use Rattle.trace_report.specs.ReportViews.{no_core_ticks, vcpu_at};
 
 use crate::ticks::{CoreTicks, VcpuTicks};
-use report_counts::Stretch;
+use run_counts::Stretch;
 
 // Takes over for each vCPU what the stretch of the whole run says. It ran nothing yet.
 pub(crate) fn take_waits(run: &[Stretch], vcpus: &mut [VcpuTicks])

@@ -2,7 +2,7 @@ ghost use Rattle.std.specs.Prelude.{◌≡◌, ◌<◌, ◌∷◌, ◌++◌, ℕ
 ghost use Rattle.dispatch_core.specs.declared.account.CoreAccount.{CoreAccount};
 ghost use Rattle.table_form.specs.Running.Courses.{CourseView};
 ghost use Rattle.trace_report.specs.ReportViews.{ReportView};
-ghost use Rattle.trace_report.specs.RunReports.{IsAdded, IsFilled, IsReportOf, IsReportSoFar};
+ghost use Rattle.trace_report.specs.RunReports.{IsAccountAdded, IsFilled, IsReportOf, IsReportSoFar};
 
 /// A report that is filled, and then given the cores' accounts by rising number, is the report of these
 /// accounts.
@@ -12,7 +12,7 @@ pub fn accounts_make_a_report()
     ensures more { (course : CourseView) (used : List ℕ) (accounts : List CoreAccount) (account : CoreAccount)
         (old new : ReportView)
         → IsReportSoFar course used accounts old → length accounts < course.cores
-        → IsAdded (length accounts) account old new
+        → IsAccountAdded (length accounts) account old new
         → IsReportSoFar course used (accounts ++ account ∷ []) new }
     ensures whole { (course : CourseView) (used : List ℕ) (accounts : List CoreAccount) (report : ReportView)
         → IsReportSoFar course used accounts report → length accounts ≡ course.cores

@@ -1,13 +1,13 @@
 ghost use Rattle.std.specs.Prelude.{◌≡◌, ◌*◌, ◌<◌, ◌≤◌, ℕ, IfOk, Some, length, slice_get};
 ghost use Rattle.tab_core.specs.declared.TheConstants.{MAX_CORES, MAX_ROUNDS, ROUND};
 ghost use Rattle.dispatch_core.specs.Accounts.{IsWithin};
-ghost use Rattle.trace_report.specs.RunReports.{HasRoom, IsAdded, IsEmpty, IsFilled};
+ghost use Rattle.trace_report.specs.RunReports.{HasRoom, IsAccountAdded, IsEmpty, IsFilled};
 
 use crate::adding::{add_vcpus, core_ticks};
 use crate::filling::{clear_cores, take_waits};
 use crate::ticks::{CoreTicks, VcpuTicks};
 use dispatch_core::CoreAccount;
-use report_counts::{RoundPlan, Stretch, count_waits, round_plans};
+use run_counts::{RoundPlan, Stretch, count_waits, round_plans};
 use std::alloc::Global;
 use std::marker::Model;
 use tab_core::{CoreNo, MAX_VCPUS, NoMemory};
@@ -30,7 +30,7 @@ pub struct Report {
 
 impl Model for Report {
     ghost use Rattle.std.specs.Prelude.{vec_capacity};
-    ghost use Rattle.trace_report.specs.Inside.Sound.{IsSound};
+    ghost use Rattle.trace_report.specs.Inside.Sound.{IsSoundReport};
     ghost use Rattle.trace_report.specs.ReportViews.{ReportView, report_view};
 
     ghost Value = { ReportView };
@@ -38,7 +38,7 @@ impl Model for Report {
     ghost view = { λ r. report_view r.plans.items r.vcpus.items r.cores.items
         (vec_capacity r.plans) r.added };
 
-    ghost invariant = { λ r. IsSound r.vcpus.items r.added r.round.items r.run.items };
+    ghost invariant = { λ r. IsSoundReport r.vcpus.items r.added r.round.items r.run.items };
 }
 
 impl Report {
@@ -91,7 +91,7 @@ impl Report {
         requires core { core < length self.old.cores }
         requires few { self.old.added < MAX_CORES }
         requires within { IsWithin account.now (MAX_ROUNDS * ROUND) }
-        ensures added { IsAdded core account.now self.old self.new }
+        ensures added { IsAccountAdded core account.now self.old self.new }
         ensures room { self.new.room ≡ self.old.room }
     {
         add_vcpus(&mut self.vcpus, account);

@@ -3,13 +3,13 @@ ghost use Rattle.tab_io.specs.Sinks.{Writes};
 ghost use Rattle.tab_words.specs.Texts.{texts_below};
 ghost use Rattle.vcpu_names.specs.Names.{name_at, names_of};
 ghost use Rattle.trace_report.specs.ReportText.{change_at, core_line, done_line, report_text, round_line, run_line, vcpu_line};
-ghost use Rattle.trace_report.specs.ReportViews.{core_at, vcpu_at};
+ghost use Rattle.trace_report.specs.ReportViews.{core_ticks_at, vcpu_at};
 
 use crate::change_line::put_change;
 use crate::report::Report;
 use crate::ticks::{CoreTicks, VcpuTicks};
 use plan_book::Outcome;
-use report_counts::RoundPlan;
+use run_counts::RoundPlan;
 use tab_core::{Host, Vcpu};
 use tab_io::{Sink, WriteFault};
 use tab_words::{TextPiece, put_line};
@@ -138,7 +138,7 @@ fn put_vcpu<K: Sink>(sink: &mut K, vcpu: &Vcpu, ticks: &VcpuTicks) -> Result<(),
 // Writes a line for each core.
 fn put_cores<K: Sink>(sink: &mut K, cores: &[CoreTicks]) -> Result<(), WriteFault>
     ensures { Writes (K.state sink.old) (K.state sink.new)
-        (texts_below (λ c. core_line c (core_at cores.now c)) (length cores.now)) result }
+        (texts_below (λ c. core_line c (core_ticks_at cores.now c)) (length cores.now)) result }
 {
     for c in 0..cores.len() {
         put_core(sink, c as u64, &cores[c])?;

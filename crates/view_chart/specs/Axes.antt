@@ -1,7 +1,7 @@
 -- The axes of time above the lanes and of ticks below them: marks at round numbers, twelve steps at most.
 use Rattle.std.specs.Prelude.{ℕ, ◌+◌, ◌-◌, ◌*◌, ◌/◌, ◌++◌, ◌&&◌, nat_le, nat_lt, List, [], ◌∷◌, codes, decimal, if◌then◌else◌, min}
 use Rattle.tab_words.specs.Texts.{texts_below}
-use Rattle.lane_svg.specs.Frames.{x_at}
+use Rattle.view_svg.specs.Frames.{x_at}
 use Rattle.view_chart.specs.declared.axis.TheConstants.{STEPS}
 use Rattle.view_lanes.specs.declared.frame.Frame.{Frame}
 
@@ -27,12 +27,12 @@ abbrev pub end_mark : Frame → ℕ
 end_mark f = micros_at f f.to / step_of f + 1
 
 -- the tick of so many microseconds, or the last
-abbrev pub tick_at : Frame → ℕ → ℕ
-tick_at f us = min f.to (us * 1000 / f.tick)
+abbrev pub axis_tick_at : Frame → ℕ → ℕ
+axis_tick_at f us = min f.to (us * 1000 / f.tick)
 
 -- where the mark of so many microseconds is
 abbrev pub mark_at : Frame → ℕ → ℕ
-mark_at f us = x_at f (tick_at f us)
+mark_at f us = x_at f (axis_tick_at f us)
 
 -- a line through the lanes
 unfoldable pub grid_line : ℕ → ℕ → List ℕ
@@ -45,26 +45,26 @@ mark_text x ms = codes "<text x=\"" ++ (decimal x
     ++ codes "</text>\n")))
 
 -- the axis's unit in microseconds: a millisecond where the step is one or more, else a microsecond
-abbrev pub unit_of : ℕ → ℕ
-unit_of step = if nat_le 1000 step then 1000 else 1
+abbrev pub axis_unit : ℕ → ℕ
+axis_unit step = if nat_le 1000 step then 1000 else 1
 
 -- the word for the axis's unit
 abbrev pub unit_word : ℕ → List ℕ
 unit_word step = if nat_le 1000 step then codes "ms" else codes "us"
 
 -- the line of the mark of a number, through the lanes that end there
-abbrev pub line_at : Frame → ℕ → ℕ → List ℕ
-line_at f foot k = grid_line foot (mark_at f ((first_mark f + k) * step_of f))
+abbrev pub grid_line_at : Frame → ℕ → ℕ → List ℕ
+grid_line_at f foot k = grid_line foot (mark_at f ((first_mark f + k) * step_of f))
 
 -- the number above the mark of a number, in the axis's unit
-abbrev pub number_at : Frame → ℕ → List ℕ
-number_at f k = mark_text (mark_at f ((first_mark f + k) * step_of f))
-    ((first_mark f + k) * step_of f / unit_of (step_of f))
+abbrev pub mark_number_at : Frame → ℕ → List ℕ
+mark_number_at f k = mark_text (mark_at f ((first_mark f + k) * step_of f))
+    ((first_mark f + k) * step_of f / axis_unit (step_of f))
 
 -- the axis with so many marks
 abbrev pub axis_of : Frame → ℕ → ℕ → List ℕ
-axis_of f foot marks = codes "<path class=\"grid\" d=\"" ++ (texts_below (line_at f foot) marks ++ (codes "\"/>\n"
-    ++ (texts_below (number_at f) marks ++ (codes "<text x=\"4000\" y=\"8900\" font-size=\"1000\" class=\"dim\">"
+axis_of f foot marks = codes "<path class=\"grid\" d=\"" ++ (texts_below (grid_line_at f foot) marks ++ (codes "\"/>\n"
+    ++ (texts_below (mark_number_at f) marks ++ (codes "<text x=\"4000\" y=\"8900\" font-size=\"1000\" class=\"dim\">"
     ++ (unit_word (step_of f) ++ codes "</text>\n")))))
 
 -- the axis above lanes that end there

@@ -5,16 +5,17 @@ use Rattle.tab_words.specs.Texts.{texts_below}
 use Rattle.view_doc.specs.declared.view.Stretch.{Stretch}
 use Rattle.view_doc.specs.declared.view.Task.{Task}
 use Rattle.view_doc.specs.declared.view.View.{View}
+use Rattle.view_doc.specs.Views.{shown_in}
 use Rattle.view_table.specs.declared.figures.Figures.{Figures}
-use Rattle.lane_svg.specs.Frames.{foot_of, height_of, pitch_of, top_of}
-use Rattle.lane_svg.specs.LanePictures.{lane_text}
-use Rattle.lane_svg.specs.Lanes.{ground_box}
+use Rattle.view_svg.specs.Frames.{foot_of, height_of, pitch_of, top_of}
+use Rattle.view_svg.specs.LanePictures.{lane_text}
+use Rattle.view_svg.specs.Lanes.{ground_box}
 use Rattle.view_chart.specs.Axes.{axis_text}
 use Rattle.view_chart.specs.Heads.{head_text}
-use Rattle.view_chart.specs.Legends.{end_of, legend_text, listed_in}
+use Rattle.view_chart.specs.Legends.{legend_end, legend_text, listed_in}
 use Rattle.view_chart.specs.Rounds.{rounds_text}
 use Rattle.view_lanes.specs.Colours.{core_names, core_tones, vcpu_tones}
-use Rattle.view_lanes.specs.Shown.{chart_lanes, cores_in, frame_of, shown_in}
+use Rattle.view_lanes.specs.Shown.{chart_lanes, cores_in, frame_of}
 use Rattle.view_lanes.specs.Titles.{head_of}
 use Rattle.view_lanes.specs.declared.frame.Bar.{Bar}
 use Rattle.view_lanes.specs.declared.frame.ChartOptions.{ChartOptions}
@@ -37,7 +38,7 @@ grounds_text n = codes "<path class=\"lane\" d=\""
 
 -- how tall a picture of so many lanes and listed keys is
 abbrev pub tall_of : ℕ → ℕ → ℕ
-tall_of lanes vcpus = end_of (foot_of lanes) vcpus + 1000
+tall_of lanes vcpus = legend_end (foot_of lanes) vcpus + 1000
 
 -- the picture of these lanes of these stretches: the vCPUs have these names, figures and promises, and the keys of the bars
 -- those names, tasks and tones

@@ -4,8 +4,8 @@ use Rattle.std.specs.Prelude.{ℕ, ◌+◌, ◌-◌, ◌*◌, ◌/◌, ◌%◌, 
 use Rattle.tab_words.specs.Texts.{texts_below}
 use Rattle.vcpu_names.specs.Names.{name_at}
 use Rattle.view_doc.specs.declared.view.Task.{Task}
-use Rattle.lane_svg.specs.Keys.{count_below, has_lane}
-use Rattle.lane_svg.specs.Marks.{short_back, short_dots, short_front}
+use Rattle.view_svg.specs.Keys.{count_below, has_lane}
+use Rattle.view_svg.specs.Marks.{short_back, short_dots, short_front}
 use Rattle.view_lanes.specs.Amounts.{per_mille, tenths_ms}
 use Rattle.view_lanes.specs.declared.frame.Bar.{Bar}
 use Rattle.view_lanes.specs.declared.frame.Frame.{Frame}
@@ -15,8 +15,8 @@ abbrev pub column_of : ℕ → ℕ
 column_of k = 4000 + k % 4 * 36000
 
 -- the line of a place's row, below lanes that end there
-abbrev pub row_of : ℕ → ℕ → ℕ
-row_of foot k = foot + 5500 + k / 4 * 1400
+abbrev pub legend_row : ℕ → ℕ → ℕ
+legend_row foot k = foot + 5500 + k / 4 * 1400
 
 -- what is listed: vCPUs, or cores
 abbrev pub listed_word : Bool → List ℕ
@@ -82,12 +82,12 @@ entry_at tick x y colour name task = swatch colour x (y - 850)
 -- the key of a number is in the place of a number, if it has a box
 abbrev pub legend_entry : ℕ → ℕ → List (List ℕ) → List Task → List ℕ → Bool → ℕ → ℕ → List ℕ
 legend_entry tick foot names tasks colours false k v = []
-legend_entry tick foot names tasks colours true k v = entry_at tick (column_of k) (row_of foot k)
+legend_entry tick foot names tasks colours true k v = entry_at tick (column_of k) (legend_row foot k)
     (slice_index colours v) (name_at names v) (slice_get tasks v)
 
 -- the entry of the key of this number, if it has a box, in the place of its rank among those that have one
-abbrev pub listed_at : ℕ → ℕ → List (List ℕ) → List Task → List ℕ → List (List Bar) → ℕ → List ℕ
-listed_at tick foot names tasks colours lanes v = legend_entry tick foot names tasks colours (has_lane lanes v)
+abbrev pub legend_entry_at : ℕ → ℕ → List (List ℕ) → List Task → List ℕ → List (List Bar) → ℕ → List ℕ
+legend_entry_at tick foot names tasks colours lanes v = legend_entry tick foot names tasks colours (has_lane lanes v)
     (count_below (has_lane lanes) v) v
 
 -- how many have a box on one of the lanes
@@ -98,8 +98,8 @@ listed_in lanes names = count_below (has_lane lanes) (length names)
 -- that has a box
 abbrev pub legend_text : Frame → ℕ → List (List ℕ) → List Task → List ℕ → List (List Bar) → List ℕ
 legend_text f foot names tasks colours lanes = texts_below (head_at f foot tasks) (min (listed_in lanes names) 4)
-    ++ texts_below (listed_at f.tick foot names tasks colours lanes) (length names)
+    ++ texts_below (legend_entry_at f.tick foot names tasks colours lanes) (length names)
 
 -- where the list of so many keys ends, below its last row
-abbrev pub end_of : ℕ → ℕ → ℕ
-end_of foot count = foot + 5500 + (count + 3) / 4 * 1400
+abbrev pub legend_end : ℕ → ℕ → ℕ
+legend_end foot count = foot + 5500 + (count + 3) / 4 * 1400

@@ -4,9 +4,9 @@ use Rattle.std.specs.Prelude.{ℕ, zero, suc, ◌+◌, ◌*◌, ◌==◌, ◌++�
 use Rattle.tab_core.specs.declared.TheConstants.{ROUND}
 use Rattle.tab_words.specs.Texts.{texts_below}
 use Rattle.view_doc.specs.declared.view.Stretch.{Stretch}
-use Rattle.lane_svg.specs.Frames.{x_at}
+use Rattle.view_svg.specs.Frames.{x_at}
 use Rattle.view_chart.specs.Axes.{tick_text}
-use Rattle.view_lanes.specs.Rounds.{first_round, rounds_shown, used_in}
+use Rattle.view_lanes.specs.Rounds.{first_round, rounds_shown, used_count_in}
 use Rattle.view_lanes.specs.declared.frame.Frame.{Frame}
 
 -- what is before a round's number where so many are shown, a letter where there is no room
@@ -24,28 +24,28 @@ abbrev pub begin_of : Frame → ℕ → ℕ
 begin_of f r = min f.to (r * ROUND)
 
 -- where the round of a number of those that are shown begins
-abbrev pub begin_at : Frame → ℕ → ℕ
-begin_at f k = x_at f (begin_of f (first_round f + k))
+abbrev pub round_begin_at : Frame → ℕ → ℕ
+round_begin_at f k = x_at f (begin_of f (first_round f + k))
 
 -- the line and the number of the round of a number of those that are shown
-abbrev pub round_at : Frame → ℕ → ℕ → List ℕ
-round_at f foot k = round_text (begin_at f k) foot (round_word (rounds_shown f)) (first_round f + k)
+abbrev pub round_mark_at : Frame → ℕ → ℕ → List ℕ
+round_mark_at f foot k = round_text (round_begin_at f k) foot (round_word (rounds_shown f)) (first_round f + k)
 
 -- ---- counts of events
 
 -- where the round before that of a number begins, of those that are shown, if that one is shown too
 abbrev pub used_before : List Stretch → ℕ → ℕ → Option ℕ
 used_before stretches first zero = None
-used_before stretches first (suc k) = used_in stretches (first + k)
+used_before stretches first (suc k) = used_count_in stretches (first + k)
 
 -- a line through the lanes where a plan begins that includes more events
-unfoldable pub change_line : ℕ → ℕ → List ℕ
-change_line x end = codes "<path stroke=\"#c2410c\" stroke-width=\"140\" d=\"M" ++ (decimal x ++ (codes " 9300V"
+unfoldable pub plan_change_line : ℕ → ℕ → List ℕ
+plan_change_line x end = codes "<path stroke=\"#c2410c\" stroke-width=\"140\" d=\"M" ++ (decimal x ++ (codes " 9300V"
     ++ (decimal end ++ codes "\"/>\n")))
 
 -- the line and the count where a round begins whose plan includes another count of events
 abbrev pub change_text : ℕ → ℕ → ℕ → List ℕ
-change_text x foot count = change_line x (foot + 300) ++ tick_text x (foot + 2400) count
+change_text x foot count = plan_change_line x (foot + 300) ++ tick_text x (foot + 2400) count
 
 -- the count of the first round below the ticks, and of another where the round before has another count
 abbrev pub new_count : ℕ → ℕ → Option ℕ → ℕ → List ℕ
@@ -58,9 +58,9 @@ count_mark x foot other None = []
 count_mark x foot other (Some count) = new_count x foot other count
 
 -- the mark of the count of the round of a number of those that are shown
-abbrev pub count_at : Frame → List Stretch → ℕ → ℕ → List ℕ
-count_at f stretches foot k = count_mark (begin_at f k) foot (used_before stretches (first_round f) k)
-    (used_in stretches (first_round f + k))
+abbrev pub count_mark_at : Frame → List Stretch → ℕ → ℕ → List ℕ
+count_mark_at f stretches foot k = count_mark (round_begin_at f k) foot (used_before stretches (first_round f) k)
+    (used_count_in stretches (first_round f + k))
 
 -- the word for the counts, left of them
 unfoldable pub events_word : ℕ → List ℕ
@@ -71,8 +71,8 @@ events_word y = codes "<text x=\"4000\" y=\"" ++ (decimal y
 
 -- the marks of so many rounds: their numbers above the lanes, and their counts below
 abbrev pub marks_text : Frame → List Stretch → ℕ → ℕ → List ℕ
-marks_text f stretches foot rounds = texts_below (round_at f foot) rounds
-    ++ (texts_below (count_at f stretches foot) rounds ++ events_word (foot + 2400))
+marks_text f stretches foot rounds = texts_below (round_mark_at f foot) rounds
+    ++ (texts_below (count_mark_at f stretches foot) rounds ++ events_word (foot + 2400))
 
 -- the marks of a run's rounds, where no more than 24 are shown; nothing of a plan
 abbrev pub rounds_text : Frame → Bool → List Stretch → ℕ → List ℕ

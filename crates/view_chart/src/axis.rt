@@ -2,13 +2,13 @@ ghost use Rattle.std.specs.Prelude.{◌≡◌, ◌<◌, ◌≤◌, ◌*◌, ◌+
 ghost use Rattle.tab_core.specs.declared.TheConstants.{MAX_VCPUS};
 ghost use Rattle.tab_io.specs.Sinks.{Writes};
 ghost use Rattle.tab_words.specs.Texts.{texts_below};
-ghost use Rattle.lane_svg.specs.Frames.{foot_of};
-ghost use Rattle.view_chart.specs.Axes.{axis_of, axis_text, end_mark, end_tick, first_mark, first_tick, grid_line, line_at, mark_at, mark_text, micros_at, number_at, step_in, step_of, tick_at, tick_axis, tick_axis_of, tick_number, tick_step, tick_text, ticks_word, time_axis, unit_of, unit_word};
+ghost use Rattle.view_svg.specs.Frames.{foot_of};
+ghost use Rattle.view_chart.specs.Axes.{axis_of, axis_text, axis_tick_at, axis_unit, end_mark, end_tick, first_mark, first_tick, grid_line, grid_line_at, mark_at, mark_number_at, mark_text, micros_at, step_in, step_of, tick_axis, tick_axis_of, tick_number, tick_step, tick_text, ticks_word, time_axis, unit_word};
 
-use lane_svg::{foot_of, x_at};
 use tab_io::{Sink, WriteFault, write_all};
 use tab_words::{TextPiece, put_pieces};
 use view_lanes::{Frame, span_of};
+use view_svg::{foot_of, x_at};
 
 // 1, 2 and 5 times the powers of ten.
 const STEPS: [u32; 28] = [
@@ -161,7 +161,7 @@ fn mark_at(frame: &Frame, us: u64) -> u64
 // The tick of so many microseconds, or the last.
 fn tick_at(frame: &Frame, us: u64) -> u32
     requires { us < 2 ^ 39 }
-    ensures { result ≡ tick_at frame.now us }
+    ensures { result ≡ axis_tick_at frame.now us }
 {
     if frame.tick == 0 {
         return 0;
@@ -171,7 +171,7 @@ fn tick_at(frame: &Frame, us: u64) -> u32
 
 fn put_lines<K: Sink>(sink: &mut K, frame: &Frame, foot: u32, marks: u64) -> Result<(), WriteFault>
     requires { marks ≤ end_mark frame.now - first_mark frame.now }
-    ensures { Writes (K.state sink.old) (K.state sink.new) (texts_below (line_at frame.now foot) marks) result }
+    ensures { Writes (K.state sink.old) (K.state sink.new) (texts_below (grid_line_at frame.now foot) marks) result }
 {
     for k in 0..marks {
         put_line(sink, frame, foot, k)?;
@@ -181,7 +181,7 @@ fn put_lines<K: Sink>(sink: &mut K, frame: &Frame, foot: u32, marks: u64) -> Res
 
 fn put_line<K: Sink>(sink: &mut K, frame: &Frame, foot: u32, k: u64) -> Result<(), WriteFault>
     requires { k < end_mark frame.now - first_mark frame.now }
-    ensures { Writes (K.state sink.old) (K.state sink.new) (line_at frame.now foot k) result }
+    ensures { Writes (K.state sink.old) (K.state sink.new) (grid_line_at frame.now foot k) result }
 {
     put_grid_line(sink, foot, mark_at(frame, micros_of(frame, k)))
 }
@@ -203,7 +203,7 @@ fn put_grid_line<K: Sink>(sink: &mut K, foot: u32, x: u64) -> Result<(), WriteFa
 
 fn put_numbers<K: Sink>(sink: &mut K, frame: &Frame, marks: u64) -> Result<(), WriteFault>
     requires { marks ≤ end_mark frame.now - first_mark frame.now }
-    ensures { Writes (K.state sink.old) (K.state sink.new) (texts_below (number_at frame.now) marks) result }
+    ensures { Writes (K.state sink.old) (K.state sink.new) (texts_below (mark_number_at frame.now) marks) result }
 {
     for k in 0..marks {
         put_number_at(sink, frame, k)?;
@@ -213,7 +213,7 @@ fn put_numbers<K: Sink>(sink: &mut K, frame: &Frame, marks: u64) -> Result<(), W
 
 fn put_number_at<K: Sink>(sink: &mut K, frame: &Frame, k: u64) -> Result<(), WriteFault>
     requires { k < end_mark frame.now - first_mark frame.now }
-    ensures { Writes (K.state sink.old) (K.state sink.new) (number_at frame.now k) result }
+    ensures { Writes (K.state sink.old) (K.state sink.new) (mark_number_at frame.now k) result }
 {
     let us = micros_of(frame, k);
     put_mark(sink, mark_at(frame, us), us / unit_of(step_of(frame)))
@@ -239,7 +239,7 @@ fn put_mark<K: Sink>(sink: &mut K, x: u64, ms: u64) -> Result<(), WriteFault>
 
 // Microseconds of the unit that marks are written in.
 fn unit_of(step: u64) -> u64
-    ensures value { result ≡ unit_of step }
+    ensures value { result ≡ axis_unit step }
     ensures some { 0 < result }
 {
     if step >= 1000 { 1000 } else { 1 }

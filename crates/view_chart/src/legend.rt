@@ -2,17 +2,17 @@ ghost use Rattle.std.specs.Prelude.{◌≡◌, ◌<◌, ◌≤◌, ◌^◌, leng
 ghost use Rattle.tab_core.specs.declared.TheConstants.{MAX_VCPUS};
 ghost use Rattle.tab_io.specs.Sinks.{Writes};
 ghost use Rattle.tab_words.specs.Texts.{texts_below};
-ghost use Rattle.lane_svg.specs.Frames.{foot_of};
-ghost use Rattle.lane_svg.specs.Keys.{count_below, has_lane};
-ghost use Rattle.lane_svg.specs.Marks.{short_back, short_dots, short_front};
-ghost use Rattle.view_chart.specs.Legends.{column_of, entry_at, head_at, head_from, legend_entry, legend_head, legend_name, legend_task, legend_text, listed_at, listed_in, listed_word, row_of, swatch, task_cells, task_entry, task_head, task_heads};
+ghost use Rattle.view_svg.specs.Frames.{foot_of};
+ghost use Rattle.view_svg.specs.Keys.{count_below, has_lane};
+ghost use Rattle.view_svg.specs.Marks.{short_back, short_dots, short_front};
+ghost use Rattle.view_chart.specs.Legends.{column_of, entry_at, head_at, head_from, legend_entry, legend_entry_at, legend_head, legend_name, legend_row, legend_task, legend_text, listed_in, listed_word, swatch, task_cells, task_entry, task_head, task_heads};
 
-use lane_svg::{count_below, foot_of, holders_in, next_place, short_back, short_dots, short_front};
 use tab_core::{Name, VcpuNo};
 use tab_io::{Sink, WriteFault};
 use tab_words::{TextPiece, put_pieces};
 use view_doc::Task;
 use view_lanes::{Frame, Lane, name_at, per_mille, tenths_ms};
+use view_svg::{count_below, foot_of, holders_in, next_place, short_back, short_dots, short_front};
 
 // Writes the list of the keys that have a box on one of the lanes, below them.
 pub(crate) fn put_legend<K: Sink>(
@@ -214,7 +214,7 @@ fn column_of(k: u32) -> u32
 fn row_of(foot: u32, k: u32) -> u32
     requires low { foot < 2 ^ 31 }
     requires few { k < MAX_VCPUS }
-    ensures value { result ≡ row_of foot k }
+    ensures value { result ≡ legend_row foot k }
     ensures low { 5500 ≤ result }
 {
     foot + 5500 + k / 4 * 1400
@@ -234,7 +234,7 @@ fn put_entries<K: Sink>(
     requires few { length names.now ≤ MAX_VCPUS }
     requires coloured { length names.now ≤ length colours.now }
     ensures { Writes (K.state sink.old) (K.state sink.new)
-        (texts_below (listed_at tick foot names.now tasks.now colours.now lanes.now) (length names.now)) result }
+        (texts_below (legend_entry_at tick foot names.now tasks.now colours.now lanes.now) (length names.now)) result }
 {
     let holders = holders_in(lanes);
     let mut place = 0;
@@ -267,7 +267,7 @@ fn put_entry<K: Sink>(
     requires held { held ≡ has_lane lanes.now v }
     requires place { place ≡ count_below (has_lane lanes.now) v }
     ensures { Writes (K.state sink.old) (K.state sink.new)
-        (listed_at tick foot names.now tasks.now colours.now lanes.now v) result }
+        (legend_entry_at tick foot names.now tasks.now colours.now lanes.now v) result }
 {
     if !held {
         return Ok(());

@@ -2,8 +2,8 @@ ghost use Rattle.std.specs.Prelude.{◌≡◌, ◌<◌, ◌≤◌, length};
 ghost use Rattle.tab_core.specs.declared.TheConstants.{MAX_VCPUS};
 ghost use Rattle.tab_io.specs.Sinks.{Writes};
 ghost use Rattle.tab_words.specs.Texts.{texts_below};
-ghost use Rattle.lane_svg.specs.Frames.{height_of, pitch_of};
-ghost use Rattle.lane_svg.specs.Lanes.{ground_box};
+ghost use Rattle.view_svg.specs.Frames.{height_of, pitch_of};
+ghost use Rattle.view_svg.specs.Lanes.{ground_box};
 ghost use Rattle.view_chart.specs.Charts.{chart_of, grounds_text, lane_at, tall_of};
 ghost use Rattle.view_chart.specs.Heads.{head_text};
 ghost use Rattle.view_chart.specs.Legends.{listed_in};
@@ -13,11 +13,11 @@ use crate::axis::put_axis;
 use crate::head::put_head;
 use crate::legend::{listed_in, put_legend};
 use crate::rounds::put_rounds;
-use lane_svg::{foot_of, height_of, pitch_of, put_box, put_lane, top_of};
 use tab_core::{Name, ROUND};
 use tab_io::{Sink, WriteFault, write_all};
 use view_doc::{Stretch, Task};
 use view_lanes::{Frame, Lane, head_of};
+use view_svg::{foot_of, height_of, pitch_of, put_box, put_lane, top_of};
 use view_table::Figures;
 
 // Writes the picture of these lanes of these stretches, of which the first is a core's or vCPU's. The vCPUs have
@@ -125,7 +125,7 @@ fn put_boxes<K: Sink>(sink: &mut K, high: u32, pitch: u32, lanes: u32) -> Result
     Ok(())
 }
 
-#[tactic(auto, using(lane_svg::proofs::Sizes::lane_offset))]
+#[tactic(auto, using(view_svg::proofs::Sizes::lane_offset))]
 fn put_ground<K: Sink>(sink: &mut K, high: u32, pitch: u32, i: u32) -> Result<(), WriteFault>
     requires few { i ≤ MAX_VCPUS }
     requires high { high ≤ 4000 }

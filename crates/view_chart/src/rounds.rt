@@ -2,17 +2,17 @@ ghost use Rattle.std.specs.Prelude.{◌≡◌, ◌<◌, ◌≤◌, ◌^◌};
 ghost use Rattle.tab_core.specs.declared.TheConstants.{MAX_VCPUS};
 ghost use Rattle.tab_io.specs.Sinks.{Writes};
 ghost use Rattle.tab_words.specs.Texts.{texts_below};
-ghost use Rattle.lane_svg.specs.Frames.{foot_of};
-ghost use Rattle.view_chart.specs.Rounds.{begin_at, begin_of, change_line, change_text, count_at, events_word, marks_text, new_count, round_at, round_text, round_word, rounds_text, used_before};
+ghost use Rattle.view_svg.specs.Frames.{foot_of};
+ghost use Rattle.view_chart.specs.Rounds.{begin_of, change_text, count_mark_at, events_word, marks_text, new_count, plan_change_line, round_begin_at, round_mark_at, round_text, round_word, rounds_text, used_before};
 ghost use Rattle.view_lanes.specs.Rounds.{AreUsed, first_round};
 
 use crate::axis::put_tick;
-use lane_svg::{foot_of, x_at};
 use tab_core::ROUND;
 use tab_io::{Sink, WriteFault};
 use tab_words::{TextPiece, put_pieces};
 use view_doc::Stretch;
 use view_lanes::{Frame, first_round, rounds_shown, used_counts};
+use view_svg::{foot_of, x_at};
 
 // Writes where the rounds of a run of these stretches begin, if these are few, with lines through so many lanes, and
 // the counts of events that their plans include.
@@ -51,7 +51,7 @@ fn put_marks<K: Sink>(
 
 fn put_all<K: Sink>(sink: &mut K, frame: &Frame, foot: u32, count: u64) -> Result<(), WriteFault>
     requires { count ≤ 24 }
-    ensures { Writes (K.state sink.old) (K.state sink.new) (texts_below (round_at frame.now foot) count) result }
+    ensures { Writes (K.state sink.old) (K.state sink.new) (texts_below (round_mark_at frame.now foot) count) result }
 {
     for k in 0..count {
         put_round_at(sink, frame, foot, k)?;
@@ -61,7 +61,7 @@ fn put_all<K: Sink>(sink: &mut K, frame: &Frame, foot: u32, count: u64) -> Resul
 
 fn put_round_at<K: Sink>(sink: &mut K, frame: &Frame, foot: u32, k: u64) -> Result<(), WriteFault>
     requires { k < 24 }
-    ensures { Writes (K.state sink.old) (K.state sink.new) (round_at frame.now foot k) result }
+    ensures { Writes (K.state sink.old) (K.state sink.new) (round_mark_at frame.now foot k) result }
 {
     let word = round_word(rounds_shown(frame));
     put_round(sink, begin_at(frame, k), foot, word, first_round(frame) + k)
@@ -77,7 +77,7 @@ fn round_word(rounds: u64) -> &'static [u8]
 // Where the round of a number of those that are shown begins.
 fn begin_at(frame: &Frame, k: u64) -> u64
     requires { k < 24 }
-    ensures value { result ≡ begin_at frame.now k }
+    ensures value { result ≡ round_begin_at frame.now k }
     ensures small { result < 2 ^ 50 }
 {
     x_at(frame, begin_of(frame, first_round(frame) + k))
@@ -130,7 +130,7 @@ fn put_counts<K: Sink>(
     requires count { count ≤ 24 }
     requires low { foot < 2 ^ 31 }
     ensures { Writes (K.state sink.old) (K.state sink.new)
-        (texts_below (count_at frame.now stretches.now foot) count) result }
+        (texts_below (count_mark_at frame.now stretches.now foot) count) result }
 {
     let counts = used_counts(stretches, first_round(frame));
     for k in 0..count {
@@ -150,7 +150,7 @@ fn put_count_at<K: Sink>(
     requires few { k < 24 }
     requires low { foot < 2 ^ 31 }
     requires counts { AreUsed stretches.now (first_round frame.now) counts.now }
-    ensures { Writes (K.state sink.old) (K.state sink.new) (count_at frame.now stretches.now foot k) result }
+    ensures { Writes (K.state sink.old) (K.state sink.new) (count_mark_at frame.now stretches.now foot k) result }
 {
     let other = count_before(stretches, first_round(frame), counts, k);
     match counts[k as usize] {
@@ -200,9 +200,9 @@ fn put_change<K: Sink>(sink: &mut K, x: u64, foot: u32, count: u32) -> Result<()
     put_tick(sink, x, foot + 2400, count)
 }
 
-#[tactic(auto, unfolding(crate::specs::Rounds::change_line))]
+#[tactic(auto, unfolding(crate::specs::Rounds::plan_change_line))]
 fn put_change_line<K: Sink>(sink: &mut K, x: u64, end: u32) -> Result<(), WriteFault>
-    ensures { Writes (K.state sink.old) (K.state sink.new) (change_line x end) result }
+    ensures { Writes (K.state sink.old) (K.state sink.new) (plan_change_line x end) result }
 {
     put_pieces(
         sink,

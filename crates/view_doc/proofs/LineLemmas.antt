@@ -9,9 +9,9 @@ use Rattle.std.specs.Str.Parse.{AllDigits}
 use Rattle.tab_core.specs.Name.{IsName}
 use Rattle.tab_core.specs.declared.TheConstants.{MAX_CORES, MAX_VCPUS}
 use Rattle.tab_words.proofs.NumberLemmas.{digit_below}
+use Rattle.tab_words.specs.Texts.{Line}
 use Rattle.view_doc.specs.Inside.Statements.{SaysNoPlain, told_by}
-use Rattle.view_doc.specs.Items.{Line}
-use Rattle.view_doc.specs.Lines.{Holder, IsGood, IsGoodHolder, IsPlain, Says, Told, head, task, core, segment, end, cut, entry, stint, posted, report, item, done, how_word, owner_word}
+use Rattle.view_doc.specs.Lines.{Holder, IsGood, IsGoodHolder, IsPlain, Says, Told, head, task, core, segment, end, cut, entry, stint, posted, report, item, done, how_of_holder, word_of_holder}
 use Rattle.view_doc.specs.declared.statement.Statement.{Statement}
 
 -- what a reader of these words answers: nothing, where there is nothing to answer, or what they say
@@ -53,7 +53,7 @@ pub core_told : (rest : Line) (told : Told) → IsPlain told → Says (codes "co
     → rest ≡ decimal d ∷ codes "round" ∷ decimal r ∷ codes "count" ∷ decimal n ∷ [] → ⊥)
     → ((d f t u v : ℕ) (held : Holder) → IsGood (stint d f t u v held)
     → rest ≡ decimal d ∷ decimal f ∷ decimal t ∷ codes "used" ∷ decimal u ∷ codes "seen" ∷ decimal v
-    ∷ owner_word held ∷ how_word held ∷ [] → ⊥) → ⊥
+    ∷ word_of_holder held ∷ how_of_holder held ∷ [] → ⊥) → ⊥
 core_told rest (core d) plain says no_core no_entry no_stint =
     no_core d says.good (rest_same _ _ _ _ says.written)
 core_told rest (entry d r n) plain says no_core no_entry no_stint =
@@ -85,7 +85,7 @@ no_core rest none told plain says = core_told rest told plain says
     (λ d good is. none d [] good is)
     (λ d r n good is. none d (codes "round" ∷ decimal r ∷ codes "count" ∷ decimal n ∷ []) good.0 is)
     (λ d f t u v held good is. none d (decimal f ∷ decimal t ∷ codes "used" ∷ decimal u ∷ codes "seen"
-    ∷ decimal v ∷ owner_word held ∷ how_word held ∷ []) good.0 is)
+    ∷ decimal v ∷ word_of_holder held ∷ how_of_holder held ∷ []) good.0 is)
 
 -- after a core's number and `round` there is no entry
 abbrev pub NoEntry : Line → Type 0
@@ -104,7 +104,7 @@ no_entry c rest none told plain says = core_told (decimal c ∷ codes "round" �
 abbrev pub NoStint : Line → Type 0
 NoStint rest = (t u v : ℕ) (held : Holder) → t < 2 ^ 32 → u < 2 ^ 32 → v < 2 ^ 32 → IsGoodHolder held
     → rest ≡ decimal t ∷ codes "used" ∷ decimal u ∷ codes "seen" ∷ decimal v
-    ∷ owner_word held ∷ how_word held ∷ [] → ⊥
+    ∷ word_of_holder held ∷ how_of_holder held ∷ [] → ⊥
 
 pub no_stint : (c from : ℕ) (rest : Line) → from < 2 ^ 32 → NoStint rest
     → SaysNoPlain (codes "core" ∷ decimal c ∷ decimal from ∷ rest)

@@ -8,10 +8,11 @@ use Rattle.std.specs.Char.{digit_value}
 use Rattle.std.specs.List.{All}
 use Rattle.std.specs.Str.{bytes_eq}
 use Rattle.tab_core.specs.Name.{IsName}
+use Rattle.tab_words.specs.Texts.{Line}
 use Rattle.view_doc.specs.Grammar.{Front, IsLed, front_behind, may_end, start}
-use Rattle.view_doc.specs.Items.{Fits, IsItem, Line, report_form, round_form, vcpu_form, core_form, planned_form, refused_form}
-use Rattle.view_doc.specs.Lines.{Holder, nobody, in_slot, in_unused, IsGood, IsGoodHolder, IsGoodOwner, Told, head, task, core, segment, end, cut, entry, stint, posted, report, item, done, how_word, owner_word, told_words}
-use Rattle.view_doc.specs.Texts.{GoesWrong, IsFirstBad, IsText}
+use Rattle.view_doc.specs.Items.{FitsForm, IsItem, report_form, round_form, vcpu_form, core_form, planned_form, refused_form}
+use Rattle.view_doc.specs.Lines.{Holder, nobody, in_slot, in_unused, IsGood, IsGoodHolder, IsGoodOwner, Told, head, task, core, segment, end, cut, entry, stint, posted, report, item, done, how_of_holder, word_of_holder, told_words}
+use Rattle.view_doc.specs.Texts.{IsFirstBad, IsText, ViewGoesWrong}
 use Rattle.view_doc.proofs.LineLemmas.{no_digit}
 
 -- ---- of what kind a line is
@@ -71,23 +72,23 @@ other_word n other low none = differs (bytes_eq (decimal n) other) refl
     differs true is = absurd (no_digit other n low none (sym ((bytes_eq-Decides (decimal n) other).0 is)))
 
 -- the words of a report have their kinds
-report_kind : (words : Line) → Fits words report_form → kind_of words ≡ 6
+report_kind : (words : Line) → FitsForm words report_form → kind_of words ≡ 6
 report_kind [] fits = absurd fits
 report_kind (w ∷ words) fits = subst (λ (x : List ℕ). kind_of (x ∷ words) ≡ 6) (sym fits.0) refl
 
-round_kind : (words : Line) → Fits words round_form → kind_of words ≡ 7
+round_kind : (words : Line) → FitsForm words round_form → kind_of words ≡ 7
 round_kind [] fits = absurd fits
 round_kind (w ∷ words) fits = subst (λ (x : List ℕ). kind_of (x ∷ words) ≡ 7) (sym fits.0) refl
 
-planned_kind : (words : Line) → Fits words planned_form → kind_of words ≡ 7
+planned_kind : (words : Line) → FitsForm words planned_form → kind_of words ≡ 7
 planned_kind [] fits = absurd fits
 planned_kind (w ∷ words) fits = subst (λ (x : List ℕ). kind_of (x ∷ words) ≡ 7) (sym fits.0) refl
 
-refused_kind : (words : Line) → Fits words refused_form → kind_of words ≡ 7
+refused_kind : (words : Line) → FitsForm words refused_form → kind_of words ≡ 7
 refused_kind [] fits = absurd fits
 refused_kind (w ∷ words) fits = subst (λ (x : List ℕ). kind_of (x ∷ words) ≡ 7) (sym fits.0) refl
 
-vcpu_item_kind : (words : Line) → Fits words vcpu_form → kind_of words ≡ 7
+vcpu_item_kind : (words : Line) → FitsForm words vcpu_form → kind_of words ≡ 7
 vcpu_item_kind [] fits = absurd fits
 vcpu_item_kind (w ∷ []) fits = absurd fits.1
 vcpu_item_kind (w ∷ x ∷ []) fits = absurd fits.1.1
@@ -95,7 +96,7 @@ vcpu_item_kind (w ∷ x ∷ y ∷ words) fits =
     subst (λ (v : List ℕ). kind_of (v ∷ x ∷ y ∷ words) ≡ 7) (sym fits.0)
     (subst (λ (v : List ℕ). kind_of (codes "vcpu" ∷ x ∷ v ∷ words) ≡ 7) (sym fits.1.1.0) refl)
 
-core_item_kind : (words : Line) → Fits words core_form → kind_of words ≡ 7
+core_item_kind : (words : Line) → FitsForm words core_form → kind_of words ≡ 7
 core_item_kind [] fits = absurd fits
 core_item_kind (w ∷ []) fits = absurd fits.1
 core_item_kind (w ∷ x ∷ []) fits = absurd fits.1.1
@@ -158,7 +159,7 @@ same_number m n low less is = decimal_injective m n (omega arith) (omega arith) 
 no_name : (name : List ℕ) → IsName name → codes "-" ≡ name → ⊥
 no_name name good is = absurd (let bad : IsName (codes "-") = subst IsName (sym is) good in cc)
 
-same_owner : (a b : Holder) → IsGoodOwner a → IsGoodOwner b → owner_word a ≡ owner_word b → a ≡ b
+same_owner : (a b : Holder) → IsGoodOwner a → IsGoodOwner b → word_of_holder a ≡ word_of_holder b → a ≡ b
 same_owner nobody nobody good fine is = refl
 same_owner nobody (in_slot name) good fine is = absurd (no_name name fine is)
 same_owner nobody (in_unused name) good fine is = absurd fine
@@ -171,8 +172,8 @@ same_owner (in_unused name) b good fine is = absurd good
 no_slot : codes "slot" ≡ codes "shared" → ⊥
 no_slot is = false≢true ((bytes_eq-Decides (codes "slot") (codes "shared")).1 is)
 
-same_holder : (a b : Holder) → IsGoodHolder a → IsGoodHolder b → owner_word a ≡ owner_word b
-    → how_word a ≡ how_word b → a ≡ b
+same_holder : (a b : Holder) → IsGoodHolder a → IsGoodHolder b → word_of_holder a ≡ word_of_holder b
+    → how_of_holder a ≡ how_of_holder b → a ≡ b
 same_holder nobody nobody good fine is how = refl
 same_holder nobody (in_slot name) good fine is how = absurd (no_name name fine is)
 same_holder nobody (in_unused name) good fine is how = absurd (no_name name fine is)
@@ -281,7 +282,7 @@ one_text bytes tolds others front last text other =
 
 -- a text goes on after its prefix
 goes_right : (front last : Front) (rest : List Told) (back : List Line) → All IsGood rest
-    → back ≡ map told_words rest → IsLed front rest last → may_end last.place ≡ true → GoesWrong front back → ⊥
+    → back ≡ map told_words rest → IsLed front rest last → may_end last.place ≡ true → ViewGoesWrong front back → ⊥
 goes_right front last [] [] good is led whole wrong =
     false≢true (sym wrong ∙ subst (λ (f : Front). may_end f.place ≡ true) (sym led) whole)
 goes_right front last [] (line ∷ back) good is led whole wrong = absurd (cc)

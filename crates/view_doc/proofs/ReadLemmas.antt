@@ -8,13 +8,13 @@ use Rattle.tab_core.specs.Name.{IsName}
 use Rattle.tab_core.specs.declared.TheConstants.{MAX_VCPUS}
 use Rattle.tab_words.specs.Lines.{lines_of}
 use Rattle.tab_words.specs.Words.{words_of}
+use Rattle.tab_words.specs.Texts.{Line, worded}
 use Rattle.vcpu_names.specs.Names.{name_at}
-use Rattle.view_doc.specs.Grammar.{Front, IsLed, ends_behind, front_behind, front_of, is_known, may_end, names_behind, place_behind, start}
-use Rattle.view_doc.specs.Inside.Reading.{AreAppended, HasRead, IsTaken, Reading}
-use Rattle.view_doc.specs.Items.{Line}
+use Rattle.view_doc.specs.Grammar.{Front, IsLed, ends_behind, front_behind, front_of, is_known, may_end, names_behind, place_after_line, start}
+use Rattle.view_doc.specs.Inside.Reading.{AreAppended, IsReadView, IsStatementTaken, Reading}
 use Rattle.view_doc.specs.Lines.{Holder, nobody, in_slot, in_unused, IsGood, IsGoodHolder, IsGoodOwner, Says, SaysNothing, Told, head, task, core, segment, end, cut, entry, stint, posted, report, item, done, told_words}
-use Rattle.view_doc.specs.Texts.{AreTold, IsFirstBad, IsMisplaced, worded}
-use Rattle.view_doc.specs.Views.{IsViewOf, cores_after, cores_behind, entries_in, holder_named, slots_from, slots_in, stints_in, stretch_told, tasks_in}
+use Rattle.view_doc.specs.Texts.{IsFirstBad, IsMisplaced, LinesSay}
+use Rattle.view_doc.specs.Views.{IsViewOf, cores_after, cores_behind, entries_in, holder_named, slots_from, slots_in, stretch_told, tasks_in, told_stints}
 use Rattle.view_doc.specs.declared.place.Place.{Place}
 use Rattle.view_doc.specs.declared.place.Place.TheVariants.{Start, Tasks, Row, Planned, Running, Reporting, Closed}
 use Rattle.view_doc.specs.declared.view.Stretch.{Stretch}
@@ -55,8 +55,8 @@ parts_of None None (Some e) front is = absurd (cc)
 parts_of None None None front is = absurd (cc)
 
 parts : (front : Front) (told : Told) (next : Front) → front_behind front told ≡ Some next
-    → AreParts (place_behind front.place told) (names_behind front.names told) (ends_behind front.ends told) next
-parts front told next is = parts_of (place_behind front.place told) (names_behind front.names told)
+    → AreParts (place_after_line front.place told) (names_behind front.names told) (ends_behind front.ends told) next
+parts front told next is = parts_of (place_after_line front.place told) (names_behind front.names told)
     (ends_behind front.ends told) next is
 
 -- one line more may be after the others
@@ -82,7 +82,7 @@ slots_more : (front : Front) (tolds : List Told) (last : Front) (told : Told) �
     → slots_from (Some front.place) (tolds ++ told ∷ [])
     ≡ slots_from (Some front.place) tolds ++ slots_in last.place told
 slots_more front [] last told led =
-    ap (λ ts. slots_in front.place told ++ ts) (no_slots (place_behind front.place told))
+    ap (λ ts. slots_in front.place told ++ ts) (no_slots (place_after_line front.place told))
     ∙ (append-nil (slots_in front.place told) ∙ ap (λ (f : Front). slots_in f.place told) led)
 slots_more front (first ∷ tolds) last told led =
     let place = (parts front first led.0 led.1).on_place in
@@ -186,7 +186,7 @@ names_more names done next is = as_before names next is
 
 -- ---- holders of good lines
 
-holder_in : (told : Told) → IsGood told → HaveHolders (stints_in told)
+holder_in : (told : Told) → IsGood told → HaveHolders (told_stints told)
 holder_in (stint c f t u v held) good = (good.5, tt)
 holder_in (task name t n h) good = tt
 holder_in (segment to held) good = tt
@@ -229,17 +229,17 @@ both_held : (some more : List Told) → HaveHolders some → HaveHolders more �
 both_held [] more have rest = rest
 both_held (told ∷ some) more have rest = (have.0, both_held some more have.1 rest)
 
-stints_held : (tolds : List Told) → All IsGood tolds → HaveHolders (flat_map stints_in tolds)
+stints_held : (tolds : List Told) → All IsGood tolds → HaveHolders (flat_map told_stints tolds)
 stints_held [] good = tt
-stints_held (told ∷ tolds) good = both_held (stints_in told) (flat_map stints_in tolds)
+stints_held (told ∷ tolds) good = both_held (told_stints told) (flat_map told_stints tolds)
     (holder_in told (good 0 told (omega arith))) (stints_held tolds (All-tail IsGood told tolds good))
 
 slots_held : (place : Option Place) (tolds : List Told) → All IsGood tolds → HaveHolders (slots_from place tolds)
 slots_held None tolds good = tt
 slots_held (Some place) [] good = tt
-slots_held (Some place) (told ∷ tolds) good = both_held (slots_in place told) (slots_from (place_behind place told) tolds)
+slots_held (Some place) (told ∷ tolds) good = both_held (slots_in place told) (slots_from (place_after_line place told) tolds)
     (slot_held place told (good 0 told (omega arith)))
-    (slots_held (place_behind place told) tolds (All-tail IsGood told tolds good))
+    (slots_held (place_after_line place told) tolds (All-tail IsGood told tolds good))
 
 -- ---- the lines so far
 
@@ -249,14 +249,14 @@ pub record SaysRead (tolds : List Told) (read : Reading) : Type 0 where
   pub tasks : read.tasks ≡ flat_map tasks_in tolds
   pub slots : map (stretch_told read.front.names) read.slots ≡ slots_from (Some Start) tolds
   pub entries : read.entries ≡ flat_map entries_in tolds
-  pub stints : map (stretch_told read.front.names) read.stints ≡ flat_map stints_in tolds
+  pub stints : map (stretch_told read.front.names) read.stints ≡ flat_map told_stints tolds
 
 -- so many lines were read, and these are left
 pub record AreRead (bytes : List ℕ) (number : ℕ) (read : Reading) (left : List (List ℕ)) : Type 0 where
   pub tolds : List Told
   pub before : List Line
   pub whole : worded bytes ≡ before ++ map words_of left
-  pub told : AreTold before tolds
+  pub told : LinesSay before tolds
   pub led : IsLed start tolds read.front
   pub says : SaysRead tolds read
   pub many : length tolds ≡ number
@@ -274,7 +274,7 @@ stretches_more old next ss new tolds some all more is have appended whole =
     ∙ (ap (λ ts. tolds ++ ts) appended.told ∙ sym whole))))
 
 parts_more : (tolds : List Told) (told : Told) (old new : Reading) → All IsGood tolds
-    → IsLed start tolds old.front → SaysRead tolds old → IsTaken told old new
+    → IsLed start tolds old.front → SaysRead tolds old → IsStatementTaken told old new
     → SaysRead (tolds ++ told ∷ []) new
 parts_more tolds told old new good led are taken =
     let more = names_more old.front.names told new.front.names (parts old.front told new.front taken.front).on_names in
@@ -290,8 +290,8 @@ parts_more tolds told old new good led are taken =
           ∙ sym (flat_map-append entries_in tolds (told ∷ []))));
       stints = stretches_more old.front.names new.front.names old.stints new.stints _ _ _ more are.stints
           (stints_held tolds good) taken.stints
-          (flat_map-append stints_in tolds (told ∷ [])
-          ∙ ap (λ ts. flat_map stints_in tolds ++ ts) (append-nil (stints_in told)));
+          (flat_map-append told_stints tolds (told ∷ [])
+          ∙ ap (λ ts. flat_map told_stints tolds ++ ts) (append-nil (told_stints told)));
     }
 
 -- before the first line
@@ -309,8 +309,8 @@ none_read bytes number read first is = rw (first, is) (record {
   count = omega arith;
 })
 
-told_more : (before : List Line) (tolds : List Told) (line : Line) (told : Told) → AreTold before tolds
-    → Says line told → AreTold (before ++ line ∷ []) (tolds ++ told ∷ [])
+told_more : (before : List Line) (tolds : List Told) (line : Line) (told : Told) → LinesSay before tolds
+    → Says line told → LinesSay (before ++ line ∷ []) (tolds ++ told ∷ [])
 told_more before tolds line told are says = record {
   written = ap (λ ls. ls ++ line ∷ []) are.written
       ∙ (ap (λ (l : Line). map told_words tolds ++ l ∷ []) says.written
@@ -321,7 +321,7 @@ told_more before tolds line told are says = record {
 
 -- after a line that was read
 pub more_read : (bytes : List ℕ) (number : ℕ) (old new : Reading) (line : List ℕ) (left : List (List ℕ))
-    (told : Told) → AreRead bytes number old (line ∷ left) → Says (words_of line) told → IsTaken told old new
+    (told : Told) → AreRead bytes number old (line ∷ left) → Says (words_of line) told → IsStatementTaken told old new
     → AreRead bytes (number + 1) new left
 more_read bytes number old new line left told read says taken = record {
   tolds = read.tolds ++ told ∷ [];
@@ -367,12 +367,12 @@ bad_end bytes number read are wrong = record {
 
 -- all lines were read
 pub all_read : (bytes : List ℕ) (number : ℕ) (read : Reading) (view : View) → AreRead bytes number read []
-    → may_end read.front.place ≡ true → HasRead read view → IsViewOf bytes view
+    → may_end read.front.place ≡ true → IsReadView read view → IsViewOf bytes view
 all_read bytes number read view are whole has = record {
   tolds = are.tolds;
   front = read.front;
   text = record {
-    told = subst (λ ls. AreTold ls are.tolds) (sym (are.whole ∙ append-nil are.before)) are.told;
+    told = subst (λ ls. LinesSay ls are.tolds) (sym (are.whole ∙ append-nil are.before)) are.told;
     led = are.led;
     whole = whole;
   };

@@ -28,27 +28,27 @@ goes_on test place = if test then Some place else None
 -- the place after what is said at a place, if it may be said there: a plan has a head, so many vCPUs
 -- whose homes are below its count of cores, and for each core by number segments whose ends rise to the
 -- round's; a run has entries and stints; a report is last
-abbrev pub place_behind : Place → Told → Option Place
-place_behind Start (head cores vcpus) = Some (Tasks cores vcpus)
-place_behind Start (entry c round count) = Some Running
-place_behind Start (stint c from to used seen holder) = goes_on (nat_lt from to) Running
-place_behind Start (posted count) = Some Closed
-place_behind (Tasks cores left) (task name period cost home) =
+abbrev pub place_after_line : Place → Told → Option Place
+place_after_line Start (head cores vcpus) = Some (Tasks cores vcpus)
+place_after_line Start (entry c round count) = Some Running
+place_after_line Start (stint c from to used seen holder) = goes_on (nat_lt from to) Running
+place_after_line Start (posted count) = Some Closed
+place_after_line (Tasks cores left) (task name period cost home) =
     goes_on (nat_lt 0 left && nat_lt home cores) (Tasks cores (left - 1))
-place_behind (Tasks cores left) (core c) = goes_on ((left == 0) && (c == 0)) (Row cores 0 0)
-place_behind (Row cores c from) (segment to holder) =
+place_after_line (Tasks cores left) (core c) = goes_on ((left == 0) && (c == 0)) (Row cores 0 0)
+place_after_line (Row cores c from) (segment to holder) =
     goes_on (nat_lt from to && nat_le to ROUND) (Row cores c to)
-place_behind (Row cores c from) (core next) =
+place_after_line (Row cores c from) (core next) =
     goes_on ((from == ROUND) && ((next == c + 1) && nat_lt next cores)) (Row cores next 0)
-place_behind (Row cores c from) end = goes_on ((from == ROUND) && (c + 1 == cores)) Planned
-place_behind Planned cut = Some Running
-place_behind Running (entry c round count) = Some Running
-place_behind Running (stint c from to used seen holder) = goes_on (nat_lt from to) Running
-place_behind Running (posted count) = Some Closed
-place_behind Running (report words) = Some Reporting
-place_behind Reporting (item words) = Some Reporting
-place_behind Reporting done = Some Closed
-place_behind _ _ = None
+place_after_line (Row cores c from) end = goes_on ((from == ROUND) && (c + 1 == cores)) Planned
+place_after_line Planned cut = Some Running
+place_after_line Running (entry c round count) = Some Running
+place_after_line Running (stint c from to used seen holder) = goes_on (nat_lt from to) Running
+place_after_line Running (posted count) = Some Closed
+place_after_line Running (report words) = Some Reporting
+place_after_line Reporting (item words) = Some Reporting
+place_after_line Reporting done = Some Closed
+place_after_line _ _ = None
 
 -- a text may end here
 abbrev pub may_end : Place → Bool
@@ -98,7 +98,7 @@ front_of _ _ _ = None
 -- what is left to the lines after this one, if it may be here
 abbrev pub front_behind : Front → Told → Option Front
 front_behind front told =
-    front_of (place_behind front.place told) (names_behind front.names told) (ends_behind front.ends told)
+    front_of (place_after_line front.place told) (names_behind front.names told) (ends_behind front.ends told)
 
 -- each of the lines may be where it is, and the last leaves this
 abbrev pub IsLed : Front → List Told → Front → Type 0

@@ -2,10 +2,7 @@
 use Rattle.std.specs.Prelude.{◌≡◌, ℕ, ◌⊎◌, List, [], ◌∷◌, codes}
 use Rattle.tab_core.specs.Name.{IsName}
 use Rattle.tab_words.specs.Numbers.{Spells}
-
--- a line, as its words
-abbrev pub Line : Type 0
-Line = List (List ℕ)
+use Rattle.tab_words.specs.Texts.{Line}
 
 -- what is at a place of a report's line: this word, a number, a name, or any word
 pub data Blank : Type 0 where
@@ -27,10 +24,10 @@ Fills word a_name = IsName word
 Fills word any_word = Unit {0}
 
 -- each of the words fits its form
-abbrev pub Fits : Line → List Blank → Type 0
-Fits [] [] = Unit {0}
-Fits (word ∷ words) (blank ∷ form) = Fills word blank × Fits words form
-Fits _ _ = ⊥
+abbrev pub FitsForm : Line → List Blank → Type 0
+FitsForm [] [] = Unit {0}
+FitsForm (word ∷ words) (blank ∷ form) = Fills word blank × FitsForm words form
+FitsForm _ _ = ⊥
 
 -- the form of a report's first line: how many rounds, cores and events there are
 abbrev pub report_form : List Blank
@@ -62,5 +59,5 @@ refused_form = this (codes "change") ∷ a_number ∷ this (codes "at") ∷ any_
 
 -- the words are a report's line between its first and its last
 abbrev pub IsItem : Line → Type 0
-IsItem words = Fits words round_form ⊎ (Fits words vcpu_form ⊎ (Fits words core_form
-    ⊎ (Fits words planned_form ⊎ Fits words refused_form)))
+IsItem words = FitsForm words round_form ⊎ (FitsForm words vcpu_form ⊎ (FitsForm words core_form
+    ⊎ (FitsForm words planned_form ⊎ FitsForm words refused_form)))

@@ -3,7 +3,8 @@
 use Rattle.std.specs.Prelude.{◌≡◌, ℕ, ◌<◌, ◌≤◌, ◌^◌, List, [], ◌∷◌, codes, decimal}
 use Rattle.tab_core.specs.Name.{IsName}
 use Rattle.tab_core.specs.declared.TheConstants.{MAX_CORES, MAX_VCPUS}
-use Rattle.view_doc.specs.Items.{Fits, Line, IsItem, report_form}
+use Rattle.tab_words.specs.Texts.{Line}
+use Rattle.view_doc.specs.Items.{FitsForm, IsItem, report_form}
 
 -- who has the ticks of a line: nobody, a vCPU in its slot, or one in time that nobody used
 pub data Holder : Type 0 where
@@ -38,16 +39,16 @@ pub data Told : Type 0 where
   done : Told
 
 -- the name of whoever is the owner of a segment, or `-`
-abbrev pub owner_word : Holder → List ℕ
-owner_word nobody = codes "-"
-owner_word (in_slot name) = name
-owner_word (in_unused name) = name
+abbrev pub word_of_holder : Holder → List ℕ
+word_of_holder nobody = codes "-"
+word_of_holder (in_slot name) = name
+word_of_holder (in_unused name) = name
 
 -- how the holder came to run
-abbrev pub how_word : Holder → List ℕ
-how_word nobody = codes "idle"
-how_word (in_slot name) = codes "slot"
-how_word (in_unused name) = codes "shared"
+abbrev pub how_of_holder : Holder → List ℕ
+how_of_holder nobody = codes "idle"
+how_of_holder (in_slot name) = codes "slot"
+how_of_holder (in_unused name) = codes "shared"
 
 -- the words of a line
 abbrev pub told_words : Told → Line
@@ -57,7 +58,7 @@ told_words (task name period cost home) =
     codes "vcpu" ∷ name ∷ codes "period" ∷ decimal period ∷ codes "cost" ∷ decimal cost
     ∷ codes "home" ∷ decimal home ∷ []
 told_words (core c) = codes "core" ∷ decimal c ∷ []
-told_words (segment to holder) = decimal to ∷ owner_word holder ∷ []
+told_words (segment to holder) = decimal to ∷ word_of_holder holder ∷ []
 told_words end = codes "end" ∷ []
 told_words cut = codes "%%" ∷ []
 told_words (entry c round count) =
@@ -65,7 +66,7 @@ told_words (entry c round count) =
 told_words (stint c from to used seen holder) =
     codes "core" ∷ decimal c ∷ decimal from ∷ decimal to
     ∷ codes "used" ∷ decimal used ∷ codes "seen" ∷ decimal seen
-    ∷ owner_word holder ∷ how_word holder ∷ []
+    ∷ word_of_holder holder ∷ how_of_holder holder ∷ []
 told_words (posted count) = codes "posted" ∷ decimal count ∷ []
 told_words (report words) = words
 told_words (item words) = words
@@ -95,7 +96,7 @@ IsGood (entry c round count) = (c < MAX_CORES) × (round < 2 ^ 32) × (count < 2
 IsGood (stint c from to used seen holder) = (c < MAX_CORES) × (from < 2 ^ 32) × (to < 2 ^ 32)
     × (used < 2 ^ 32) × (seen < 2 ^ 32) × IsGoodHolder holder
 IsGood (posted count) = count < 2 ^ 32
-IsGood (report words) = Fits words report_form
+IsGood (report words) = FitsForm words report_form
 IsGood (item words) = IsItem words
 IsGood done = Unit {0}
 

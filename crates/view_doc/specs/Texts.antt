@@ -1,24 +1,18 @@
 -- The texts that are read, and the first bad line of another.
 use Rattle.std.specs.Prelude.{◌≡◌, ℕ, ◌+◌, ◌⊎◌, true, false, List, [], ◌∷◌, ◌++◌, length, map, None}
 use Rattle.std.specs.List.{All}
-use Rattle.tab_words.specs.Lines.{lines_of}
-use Rattle.tab_words.specs.Words.{words_of}
+use Rattle.tab_words.specs.Texts.{Line, worded}
 use Rattle.view_doc.specs.Grammar.{Front, IsLed, front_behind, may_end, start}
-use Rattle.view_doc.specs.Items.{Line}
 use Rattle.view_doc.specs.Lines.{IsGood, Says, SaysNothing, Told, told_words}
 
--- the lines of a text, each as its words
-abbrev pub worded : List ℕ → List Line
-worded bytes = map words_of (lines_of bytes)
-
 -- the lines say this
-pub record AreTold (lines : List Line) (tolds : List Told) : Type 0 where
+pub record LinesSay (lines : List Line) (tolds : List Told) : Type 0 where
   pub written : lines ≡ map told_words tolds
   pub good : All IsGood tolds
 
 -- the bytes are a text, whose lines say this and leave that
 pub record IsText (bytes : List ℕ) (tolds : List Told) (front : Front) : Type 0 where
-  pub told : AreTold (worded bytes) tolds
+  pub told : LinesSay (worded bytes) tolds
   pub led : IsLed start tolds front
   pub whole : may_end front.place ≡ true
 
@@ -30,9 +24,9 @@ pub record IsMisplaced (front : Front) (line : Line) : Type 0 where
 
 -- after this prefix no text goes on as these lines do: the first says nothing, or what may not be
 -- there, or there is none and the text may not end
-abbrev pub GoesWrong : Front → List Line → Type 0
-GoesWrong front [] = may_end front.place ≡ false
-GoesWrong front (line ∷ back) = SaysNothing line ⊎ IsMisplaced front line
+abbrev pub ViewGoesWrong : Front → List Line → Type 0
+ViewGoesWrong front [] = may_end front.place ≡ false
+ViewGoesWrong front (line ∷ back) = SaysNothing line ⊎ IsMisplaced front line
 
 -- the first bad line, from 1, or one past the last where the text stops early
 pub record IsFirstBad (bytes : List ℕ) (bad : ℕ) : Type 0 where
@@ -41,7 +35,7 @@ pub record IsFirstBad (bytes : List ℕ) (bad : ℕ) : Type 0 where
   pub before : List Line
   pub back : List Line
   pub whole : worded bytes ≡ before ++ back
-  pub told : AreTold before tolds
+  pub told : LinesSay before tolds
   pub led : IsLed start tolds front
-  pub wrong : GoesWrong front back
+  pub wrong : ViewGoesWrong front back
   pub number : bad ≡ length tolds + 1

@@ -1,7 +1,7 @@
 -- What a text shows: what its lines say, by the vCPUs' numbers.
-use Rattle.std.specs.Prelude.{◌≡◌, ℕ, Bool, true, false, List, [], ◌∷◌, ◌++◌, flat_map, map, Option, Some, None}
+use Rattle.std.specs.Prelude.{◌≡◌, ℕ, Bool, true, false, List, [], ◌∷◌, ◌++◌, flat_map, map, Option, Some, None, if◌then◌else◌, ◌+◌, max}
 use Rattle.vcpu_names.specs.Names.{name_at}
-use Rattle.view_doc.specs.Grammar.{Front, place_behind}
+use Rattle.view_doc.specs.Grammar.{Front, place_after_line}
 use Rattle.view_doc.specs.Lines.{Holder, nobody, in_slot, in_unused, Told, head, task, segment, entry, stint}
 use Rattle.view_doc.specs.Texts.{IsText}
 use Rattle.view_doc.specs.declared.place.Place.{Place}
@@ -26,9 +26,9 @@ entries_in (entry c round count) = (record { core = c; round = round; count = co
 entries_in _ = []
 
 -- the line of a stint alone
-abbrev pub stints_in : Told → List Told
-stints_in (stint c from to used seen holder) = stint c from to used seen holder ∷ []
-stints_in _ = []
+abbrev pub told_stints : Told → List Told
+told_stints (stint c from to used seen holder) = stint c from to used seen holder ∷ []
+told_stints _ = []
 
 -- a segment as a stint: it begins where its row is, and counts nothing
 abbrev pub slots_in : Place → Told → List Told
@@ -39,7 +39,7 @@ slots_in _ _ = []
 abbrev pub slots_from : Option Place → List Told → List Told
 slots_from None tolds = []
 slots_from (Some place) [] = []
-slots_from (Some place) (told ∷ tolds) = slots_in place told ++ slots_from (place_behind place told) tolds
+slots_from (Some place) (told ∷ tolds) = slots_in place told ++ slots_from (place_after_line place told) tolds
 
 -- how many cores the last head counts after this line, and so many without one
 abbrev pub cores_behind : ℕ → Told → ℕ
@@ -76,7 +76,7 @@ pub record ShowsTold (tolds : List Told) (front : Front) (view : View) : Type 0 
   pub tasks : view.tasks.items ≡ flat_map tasks_in tolds
   pub slots : map (stretch_told front.names) view.slots.items ≡ slots_from (Some Start) tolds
   pub entries : view.entries.items ≡ flat_map entries_in tolds
-  pub stints : map (stretch_told front.names) view.stints.items ≡ flat_map stints_in tolds
+  pub stints : map (stretch_told front.names) view.stints.items ≡ flat_map told_stints tolds
 
 -- the bytes are a text that shows this view
 pub record IsViewOf (bytes : List ℕ) (view : View) : Type 0 where
@@ -84,3 +84,12 @@ pub record IsViewOf (bytes : List ℕ) (view : View) : Type 0 where
   pub front : Front
   pub text : IsText bytes tolds front
   pub shows : ShowsTold tolds front view
+
+-- the stints of a run, else the slots of a plan
+abbrev pub shown_in : View → List Stretch
+shown_in view = if view.is_run then view.stints.items else view.slots.items
+
+-- how many cores the stretches reach: one more than the greatest number, and 0 where there is none
+abbrev pub reach_of : List Stretch → ℕ
+reach_of [] = 0
+reach_of (s ∷ ss) = max (s.core + 1) (reach_of ss)

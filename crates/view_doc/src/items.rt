@@ -1,7 +1,7 @@
 ghost use Rattle.std.specs.Prelude.{◌↔◌, IsTrue, map};
 ghost use Rattle.view_doc.specs.Inside.Statements.{blank_of};
 ghost use Rattle.tab_words.specs.Words.{words_of};
-ghost use Rattle.view_doc.specs.Items.{Fills, Fits, IsItem, report_form, round_form, vcpu_form, core_form, planned_form, refused_form};
+ghost use Rattle.view_doc.specs.Items.{Fills, FitsForm, IsItem, report_form, round_form, vcpu_form, core_form, planned_form, refused_form};
 
 use crate::numbers::is_number;
 use tab_core::Name;
@@ -20,7 +20,7 @@ pub(crate) enum Blank {
 
 // Whether the line is the first line of a report.
 pub(crate) fn is_report(line: &[u8]) -> bool
-    ensures { IsTrue result ↔ Fits (words_of line.now) report_form }
+    ensures { IsTrue result ↔ FitsForm (words_of line.now) report_form }
 {
     fits(
         line,
@@ -48,7 +48,7 @@ pub(crate) fn is_item(line: &[u8]) -> bool
 }
 
 fn is_round_item(line: &[u8]) -> bool
-    ensures { IsTrue result ↔ Fits (words_of line.now) round_form }
+    ensures { IsTrue result ↔ FitsForm (words_of line.now) round_form }
 {
     fits(
         line,
@@ -62,7 +62,7 @@ fn is_round_item(line: &[u8]) -> bool
 }
 
 fn is_vcpu_item(line: &[u8]) -> bool
-    ensures { IsTrue result ↔ Fits (words_of line.now) vcpu_form }
+    ensures { IsTrue result ↔ FitsForm (words_of line.now) vcpu_form }
 {
     fits(
         line,
@@ -82,7 +82,7 @@ fn is_vcpu_item(line: &[u8]) -> bool
 }
 
 fn is_core_item(line: &[u8]) -> bool
-    ensures { IsTrue result ↔ Fits (words_of line.now) core_form }
+    ensures { IsTrue result ↔ FitsForm (words_of line.now) core_form }
 {
     fits(
         line,
@@ -100,7 +100,7 @@ fn is_core_item(line: &[u8]) -> bool
 }
 
 fn is_planned_item(line: &[u8]) -> bool
-    ensures { IsTrue result ↔ Fits (words_of line.now) planned_form }
+    ensures { IsTrue result ↔ FitsForm (words_of line.now) planned_form }
 {
     fits(
         line,
@@ -115,7 +115,7 @@ fn is_planned_item(line: &[u8]) -> bool
 }
 
 fn is_refused_item(line: &[u8]) -> bool
-    ensures { IsTrue result ↔ Fits (words_of line.now) refused_form }
+    ensures { IsTrue result ↔ FitsForm (words_of line.now) refused_form }
 {
     fits(
         line,
@@ -134,7 +134,7 @@ fn is_refused_item(line: &[u8]) -> bool
 
 // Whether each of the words fits its form.
 fn fits(line: &[u8], form: &[Blank]) -> bool
-    ensures { IsTrue result ↔ Fits (words_of line.now) (map blank_of form.now) }
+    ensures { IsTrue result ↔ FitsForm (words_of line.now) (map blank_of form.now) }
 {
     let mut words = Words::of(line);
     for blank in form {

@@ -2,9 +2,9 @@ ghost use Rattle.std.specs.Prelude.{◌≡◌, ◌≢◌, ℕ, ◌<◌, ◌≤�
 ghost use Rattle.tab_core.specs.Name.{IsName};
 ghost use Rattle.tab_core.specs.declared.TheConstants.{MAX_CORES, MAX_VCPUS};
 ghost use Rattle.tab_words.specs.Words.{words_of};
+ghost use Rattle.tab_words.specs.Texts.{Line};
 ghost use Rattle.view_doc.specs.Inside.Statements.{SaysNoPlain, held_by, told_by};
-ghost use Rattle.view_doc.specs.Items.{Line};
-ghost use Rattle.view_doc.specs.Lines.{IsGoodHolder, IsGoodOwner, Says, SaysNothing, how_word, owner_word};
+ghost use Rattle.view_doc.specs.Lines.{IsGoodHolder, IsGoodOwner, Says, SaysNothing, how_of_holder, word_of_holder};
 ghost use Rattle.view_doc.specs.Lines.{Holder as Held};
 
 use crate::items::{is_item, is_report};
@@ -97,7 +97,7 @@ fn stint_of<'a>(core: CoreNo, from: u32, words: &mut Words<'a>) -> Option<Statem
     ensures { MatchOption result ((t u v : ℕ) (held : Held)
         → t < 2 ^ 32 → u < 2 ^ 32 → v < 2 ^ 32 → IsGoodHolder held
         → words.old ≡ decimal t ∷ codes "used" ∷ decimal u ∷ codes "seen" ∷ decimal v
-        ∷ owner_word held ∷ how_word held ∷ [] → ⊥)
+        ∷ word_of_holder held ∷ how_of_holder held ∷ [] → ⊥)
         (λ s. (all : Line)
         → Says (codes "core" ∷ decimal core ∷ decimal from ∷ words.old) (told_by all s)) }
 {
@@ -120,9 +120,9 @@ fn stint_of<'a>(core: CoreNo, from: u32, words: &mut Words<'a>) -> Option<Statem
 // Takes the last two words of a stint.
 fn take_holder<'a>(words: &mut Words<'a>) -> Option<Holder<'a>>
     ensures { MatchOption result
-        ((held : Held) → IsGoodHolder held → words.old ≡ owner_word held ∷ how_word held ∷ [] → ⊥)
+        ((held : Held) → IsGoodHolder held → words.old ≡ word_of_holder held ∷ how_of_holder held ∷ [] → ⊥)
         (λ holder. IsGoodHolder (held_by holder)
-        × (words.old ≡ owner_word (held_by holder) ∷ how_word (held_by holder) ∷ [])) }
+        × (words.old ≡ word_of_holder (held_by holder) ∷ how_of_holder (held_by holder) ∷ [])) }
 {
     let name = words.next()?;
     let how = words.next()?;
@@ -133,9 +133,9 @@ fn take_holder<'a>(words: &mut Words<'a>) -> Option<Holder<'a>>
 // Who the last two words of a stint are.
 fn holder_of<'a>(name: &'a [u8], how: &[u8]) -> Option<Holder<'a>>
     ensures { MatchOption result
-        ((held : Held) → IsGoodHolder held → name.now ≡ owner_word held → how.now ≡ how_word held → ⊥)
-        (λ holder. IsGoodHolder (held_by holder) × (name.now ≡ owner_word (held_by holder))
-        × (how.now ≡ how_word (held_by holder))) }
+        ((held : Held) → IsGoodHolder held → name.now ≡ word_of_holder held → how.now ≡ how_of_holder held → ⊥)
+        (λ holder. IsGoodHolder (held_by holder) × (name.now ≡ word_of_holder (held_by holder))
+        × (how.now ≡ how_of_holder (held_by holder))) }
 {
     if name == b"-".as_slice() {
         return if how == b"idle".as_slice() {
@@ -254,8 +254,8 @@ fn segment_of<'a>(first: &[u8], second: &'a [u8]) -> Option<Statement<'a>>
 
 // Who the word of a segment is.
 fn owner_of<'a>(word: &'a [u8]) -> Option<Holder<'a>>
-    ensures { MatchOption result ((held : Held) → IsGoodOwner held → word.now ≡ owner_word held → ⊥)
-        (λ holder. IsGoodOwner (held_by holder) × (word.now ≡ owner_word (held_by holder))) }
+    ensures { MatchOption result ((held : Held) → IsGoodOwner held → word.now ≡ word_of_holder held → ⊥)
+        (λ holder. IsGoodOwner (held_by holder) × (word.now ≡ word_of_holder (held_by holder))) }
 {
     if word == b"-".as_slice() {
         Some(Holder::Nobody)

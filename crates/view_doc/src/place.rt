@@ -1,8 +1,8 @@
 ghost use Rattle.std.specs.Prelude.{◌≡◌, ℕ, ◌&&◌, [], ◌∷◌, IfSome, MatchOption, Some, nat_le, nat_lt};
 ghost use Rattle.tab_core.specs.declared.TheConstants.{ROUND};
-ghost use Rattle.view_doc.specs.Grammar.{goes_on, may_end, place_behind};
+ghost use Rattle.tab_words.specs.Texts.{Line};
+ghost use Rattle.view_doc.specs.Grammar.{goes_on, may_end, place_after_line};
 ghost use Rattle.view_doc.specs.Inside.Statements.{told_by};
-ghost use Rattle.view_doc.specs.Items.{Line};
 ghost use Rattle.view_doc.specs.Lines.{segment, stint};
 ghost use Rattle.view_doc.specs.Lines.{Holder as Held};
 ghost use Rattle.view_doc.specs.Views.{slots_in};
@@ -32,7 +32,7 @@ pub enum Place {
 
 // The place after the statement, if it may be at this one.
 pub(crate) fn place_behind(place: &Place, statement: &Statement<'_>) -> Option<Place>
-    ensures { (words : Line) → result ≡ place_behind place.now (told_by words statement.now) }
+    ensures { (words : Line) → result ≡ place_after_line place.now (told_by words statement.now) }
 {
     match *place {
         Place::Start => behind_start(statement),
@@ -65,7 +65,7 @@ pub(crate) fn row_at(place: &Place) -> Option<(CoreNo, u32)>
 
 // The place after a segment that ends at this tick, if the place is in a row and it may be there.
 pub(crate) fn row_behind(place: &Place, end: u32) -> Option<Place>
-    ensures { IfSome result (λ next. (held : Held) → place_behind place.now (segment end held) ≡ Some next) }
+    ensures { IfSome result (λ next. (held : Held) → place_after_line place.now (segment end held) ≡ Some next) }
 {
     match *place {
         Place::Row { cores, core, from } => row_up_to(cores, core, from, end),
@@ -89,7 +89,7 @@ fn row_up_to(cores: u32, core: CoreNo, from: u32, end: u32) -> Option<Place>
 }
 
 fn behind_start(statement: &Statement<'_>) -> Option<Place>
-    ensures { (words : Line) → result ≡ place_behind Start (told_by words statement.now) }
+    ensures { (words : Line) → result ≡ place_after_line Start (told_by words statement.now) }
 {
     match *statement {
         Statement::Head { cores, vcpus } => Some(Place::Tasks { cores, left: vcpus }),
@@ -112,7 +112,7 @@ fn run_with(from: u32, end: u32) -> Option<Place>
 }
 
 fn behind_task(cores: u32, left: u32, statement: &Statement<'_>) -> Option<Place>
-    ensures { (words : Line) → result ≡ place_behind (Tasks cores left) (told_by words statement.now) }
+    ensures { (words : Line) → result ≡ place_after_line (Tasks cores left) (told_by words statement.now) }
 {
     match *statement {
         Statement::Task { home, .. } if left > 0 && home.0 < cores => Some(Place::Tasks {
@@ -129,7 +129,7 @@ fn behind_task(cores: u32, left: u32, statement: &Statement<'_>) -> Option<Place
 }
 
 fn behind_segment(cores: u32, core: CoreNo, from: u32, statement: &Statement<'_>) -> Option<Place>
-    ensures { (words : Line) → result ≡ place_behind (Row cores core from) (told_by words statement.now) }
+    ensures { (words : Line) → result ≡ place_after_line (Row cores core from) (told_by words statement.now) }
 {
     match *statement {
         Statement::Segment { end, .. } => row_up_to(cores, core, from, end),
@@ -146,7 +146,7 @@ fn behind_segment(cores: u32, core: CoreNo, from: u32, statement: &Statement<'_>
 }
 
 fn behind_plan(statement: &Statement<'_>) -> Option<Place>
-    ensures { (words : Line) → result ≡ place_behind Planned (told_by words statement.now) }
+    ensures { (words : Line) → result ≡ place_after_line Planned (told_by words statement.now) }
 {
     match *statement {
         Statement::Cut => Some(Place::Running),
@@ -155,7 +155,7 @@ fn behind_plan(statement: &Statement<'_>) -> Option<Place>
 }
 
 fn behind_stint(statement: &Statement<'_>) -> Option<Place>
-    ensures { (words : Line) → result ≡ place_behind Running (told_by words statement.now) }
+    ensures { (words : Line) → result ≡ place_after_line Running (told_by words statement.now) }
 {
     match *statement {
         Statement::Entry { .. } => Some(Place::Running),
@@ -167,7 +167,7 @@ fn behind_stint(statement: &Statement<'_>) -> Option<Place>
 }
 
 fn behind_item(statement: &Statement<'_>) -> Option<Place>
-    ensures { (words : Line) → result ≡ place_behind Reporting (told_by words statement.now) }
+    ensures { (words : Line) → result ≡ place_after_line Reporting (told_by words statement.now) }
 {
     match *statement {
         Statement::Item => Some(Place::Reporting),

@@ -1,10 +1,10 @@
 ghost use Rattle.std.specs.Prelude.{◌≡◌, [], IfOk, IsTrue, None, false};
 ghost use Rattle.tab_core.specs.Name.{IsName};
 ghost use Rattle.tab_words.specs.Words.{words_of};
+ghost use Rattle.tab_words.specs.Texts.{Line};
 ghost use Rattle.view_doc.specs.Grammar.{front_behind, may_end, start};
-ghost use Rattle.view_doc.specs.Inside.Reading.{CantBePut, HasNames, HasRead, IsBadLine, IsLineTaken, IsPut, IsTaken};
+ghost use Rattle.view_doc.specs.Inside.Reading.{CantBePut, HasNames, IsLineTaken, IsPut, IsReadView, IsStatementTaken, IsWrongLine};
 ghost use Rattle.view_doc.specs.Inside.Statements.{held_by, told_by};
-ghost use Rattle.view_doc.specs.Items.{Line};
 ghost use Rattle.view_doc.specs.Lines.{IsGoodHolder, IsGoodOwner, entry, segment, stint, task};
 
 use crate::line::statement_of;
@@ -84,7 +84,7 @@ impl<'a> Reader<'a> {
 
     // What was read, as a view.
     pub(crate) fn into_view(self) -> View
-        ensures { HasRead self.entry result }
+        ensures { IsReadView self.entry result }
     {
         View {
             cores: self.cores,
@@ -100,7 +100,7 @@ impl<'a> Reader<'a> {
     // Takes a line, if it says something that may be there.
     pub(crate) fn take_line(&mut self, alloc: Global, line: &'a [u8]) -> Result<bool, NoMemory>
         ensures taken { IfOk result (λ taken. IsTrue taken → IsLineTaken (words_of line.now) self.old self.new) }
-        ensures refused { IfOk result (λ taken. taken ≡ false → IsBadLine self.old.front (words_of line.now)) }
+        ensures refused { IfOk result (λ taken. taken ≡ false → IsWrongLine self.old.front (words_of line.now)) }
     {
         if self.take_plain(line)? {
             return Ok(true);
@@ -140,7 +140,7 @@ impl<'a> Reader<'a> {
     fn take(&mut self, alloc: Global, statement: &Statement<'a>) -> Result<bool, NoMemory>
         requires { (words : Line) → HasNames (told_by words statement.now) }
         ensures taken { IfOk result (λ taken. IsTrue taken
-            → (words : Line) → IsTaken (told_by words statement.now) self.old self.new) }
+            → (words : Line) → IsStatementTaken (told_by words statement.now) self.old self.new) }
         ensures refused { IfOk result (λ taken. taken ≡ false
             → (words : Line) → front_behind self.old.front (told_by words statement.now) ≡ None) }
     {

@@ -1,7 +1,7 @@
 ghost use Rattle.std.specs.Prelude.{◌≡◌, ℕ, ◌<◌, ◌^◌, [], ◌∷◌, List, MatchOption, decimal};
 ghost use Rattle.tab_core.specs.Name.{IsName};
 ghost use Rattle.tab_core.specs.declared.TheConstants.{MAX_CORES};
-ghost use Rattle.view_doc.specs.Items.{Line};
+ghost use Rattle.tab_words.specs.Texts.{Line};
 
 use crate::numbers::small_number;
 use tab_core::{CoreNo, MAX_CORES, Name};

@@ -8,7 +8,8 @@ use Rattle.view_doc.specs.declared.view.Stretch.{Stretch}
 use Rattle.view_doc.specs.declared.view.Use.{Use}
 use Rattle.view_doc.specs.declared.view.Use.TheVariants.{Idle, Slot, Shared}
 use Rattle.view_doc.specs.declared.view.View.{View}
-use Rattle.view_export.specs.Shown.{holder_name, how_text, lanes_in, shown_in}
+use Rattle.view_doc.specs.Views.{shown_in}
+use Rattle.view_export.specs.Shown.{holder_name, how_text, lanes_in}
 
 -- three digits of a number below 1000
 unfoldable pub three_digits : ℕ → List ℕ
@@ -30,8 +31,8 @@ core_events c = codes ",\n{\"ph\":\"M\",\"pid\":0,\"tid\":" ++ (decimal c
     ++ (codes ",\"name\":\"thread_sort_index\",\"args\":{\"sort_index\":" ++ (decimal c ++ codes "}}")))))))
 
 -- the beginning of the event of a stretch that somebody has: the core, who and how
-unfoldable pub held_by : List (List ℕ) → Stretch → List ℕ
-held_by names s = codes ",\n{\"ph\":\"X\",\"pid\":0,\"tid\":" ++ (decimal s.core
+unfoldable pub holder_event : List (List ℕ) → Stretch → List ℕ
+holder_event names s = codes ",\n{\"ph\":\"X\",\"pid\":0,\"tid\":" ++ (decimal s.core
     ++ (codes ",\"name\":\"" ++ (holder_name names s.by
     ++ (codes "\",\"cat\":\"" ++ (how_text s.by ++ codes "\",\"ts\":")))))
 
@@ -44,7 +45,7 @@ held_counts s = codes ",\"args\":{\"from\":" ++ (decimal s.from
 
 -- the event of a stretch that somebody has, where a tick has so many nanoseconds
 abbrev pub held_event : ℕ → List (List ℕ) → Stretch → List ℕ
-held_event tick names s = held_by names s ++ (micros (s.from * tick)
+held_event tick names s = holder_event names s ++ (micros (s.from * tick)
     ++ (codes ",\"dur\":" ++ (micros ((s.end - s.from) * tick) ++ held_counts s)))
 
 -- the text of a stretch's event where somebody has the stretch; else nothing

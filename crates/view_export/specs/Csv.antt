@@ -4,7 +4,8 @@
 use Rattle.std.specs.Prelude.{ℕ, Bool, true, false, ◌++◌, List, codes, decimal, flat_map}
 use Rattle.view_doc.specs.declared.view.Stretch.{Stretch}
 use Rattle.view_doc.specs.declared.view.View.{View}
-use Rattle.view_export.specs.Shown.{holder_name, how_text, shown_in}
+use Rattle.view_doc.specs.Views.{shown_in}
+use Rattle.view_export.specs.Shown.{holder_name, how_text}
 
 -- the first line; a run's has its counts of events
 abbrev pub csv_head : Bool → List ℕ
@@ -17,15 +18,15 @@ slot_line names s = decimal s.core ++ (codes "," ++ (decimal s.from ++ (codes ",
     ++ (codes "," ++ (holder_name names s.by ++ (codes "," ++ (how_text s.by ++ codes "\n"))))))))
 
 -- the line of a run's stint
-unfoldable pub stint_line : List (List ℕ) → Stretch → List ℕ
-stint_line names s = decimal s.core ++ (codes "," ++ (decimal s.from ++ (codes "," ++ (decimal s.end
+unfoldable pub csv_stint : List (List ℕ) → Stretch → List ℕ
+csv_stint names s = decimal s.core ++ (codes "," ++ (decimal s.from ++ (codes "," ++ (decimal s.end
     ++ (codes "," ++ (holder_name names s.by ++ (codes "," ++ (how_text s.by
     ++ (codes "," ++ (decimal s.used ++ (codes "," ++ (decimal s.seen ++ codes "\n"))))))))))))
 
 -- the line of a stint of a run, or of a segment of a plan
 abbrev pub csv_line : Bool → List (List ℕ) → Stretch → List ℕ
 csv_line false names s = slot_line names s
-csv_line true names s = stint_line names s
+csv_line true names s = csv_stint names s
 
 -- the text of these stretches
 abbrev pub csv_of : Bool → List (List ℕ) → List Stretch → List ℕ

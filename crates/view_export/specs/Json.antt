@@ -78,17 +78,17 @@ abbrev pub stint_head : List ℕ
 stint_head = codes "\n],\"stints\":[\n[\"core\",\"from\",\"end\",\"vcpu\",\"how\",\"used\",\"seen\"]"
 
 -- a table: its first row, and one for each of these
-abbrev pub table_of : {X : Type 0} → List ℕ → (X → List ℕ) → List X → List ℕ
-table_of first row xs = first ++ flat_map row xs
+abbrev pub json_table : {X : Type 0} → List ℕ → (X → List ℕ) → List X → List ℕ
+json_table first row xs = first ++ flat_map row xs
 
 -- the text of these vCPUs, slots, entries and stints
 abbrev pub json_of : ℕ → ℕ → Bool → List (List ℕ) → List Task → List Stretch → List Entry → List Stretch
     → List ℕ
 json_of tick cores is_run names tasks slots entries stints = json_begin tick cores (kind_text is_run)
     ++ (texts_below (vcpu_row names tasks) (length names)
-    ++ (table_of slot_head (stretch_row names) slots
-    ++ (table_of entry_head entry_row entries
-    ++ (table_of stint_head (stretch_row names) stints ++ codes "\n]}\n"))))
+    ++ (json_table slot_head (stretch_row names) slots
+    ++ (json_table entry_head entry_row entries
+    ++ (json_table stint_head (stretch_row names) stints ++ codes "\n]}\n"))))
 
 -- the text of a view
 abbrev pub json_text : ℕ → View → List ℕ

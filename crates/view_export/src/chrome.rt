@@ -2,7 +2,7 @@ ghost use Rattle.std.specs.Prelude.{◌*◌, ◌-◌, ◌≤◌, flat_map};
 ghost use Rattle.tab_core.specs.declared.TheConstants.{MAX_TICK_NS, ROUND};
 ghost use Rattle.tab_io.specs.Sinks.{Writes};
 ghost use Rattle.tab_words.specs.Texts.{texts_below};
-ghost use Rattle.view_export.specs.Chrome.{chrome_of, chrome_text, core_events, entry_by, entry_count, entry_event, held_by, held_counts, held_event, micros, stretch_event};
+ghost use Rattle.view_export.specs.Chrome.{chrome_of, chrome_text, core_events, entry_by, entry_count, entry_event, held_counts, held_event, holder_event, micros, stretch_event};
 
 use crate::shown::{holder_name, how_text, lanes_in, shown_in};
 use tab_core::{Name, ROUND};
@@ -132,9 +132,9 @@ fn put_held<K: Sink>(
     put_held_counts(sink, s)
 }
 
-#[tactic(auto, unfolding(crate::specs::Chrome::held_by))]
+#[tactic(auto, unfolding(crate::specs::Chrome::holder_event))]
 fn put_held_by<K: Sink>(sink: &mut K, names: &[Name], s: &Stretch) -> Result<(), WriteFault>
-    ensures { Writes (K.state sink.old) (K.state sink.new) (held_by names.now s.now) result }
+    ensures { Writes (K.state sink.old) (K.state sink.new) (holder_event names.now s.now) result }
 {
     put_pieces(
         sink,

@@ -1,6 +1,6 @@
 ghost use Rattle.std.specs.Prelude.{◌≡◌, flat_map};
 ghost use Rattle.tab_io.specs.Sinks.{Writes};
-ghost use Rattle.view_export.specs.Csv.{csv_head, csv_line, csv_of, csv_text, slot_line, stint_line};
+ghost use Rattle.view_export.specs.Csv.{csv_head, csv_line, csv_of, csv_stint, csv_text, slot_line};
 
 use crate::shown::{holder_name, how_text, shown_in};
 use tab_core::Name;
@@ -105,9 +105,9 @@ fn put_slot<K: Sink>(sink: &mut K, names: &[Name], s: &Stretch) -> Result<(), Wr
     )
 }
 
-#[tactic(auto, unfolding(crate::specs::Csv::stint_line))]
+#[tactic(auto, unfolding(crate::specs::Csv::csv_stint))]
 fn put_stint<K: Sink>(sink: &mut K, names: &[Name], s: &Stretch) -> Result<(), WriteFault>
-    ensures { Writes (K.state sink.old) (K.state sink.new) (stint_line names.now s.now) result }
+    ensures { Writes (K.state sink.old) (K.state sink.new) (csv_stint names.now s.now) result }
 {
     put_pieces(
         sink,

@@ -2,7 +2,7 @@ ghost use Rattle.std.specs.Prelude.{◌≡◌, ◌<◌, ◌++◌, codes, flat_ma
 ghost use Rattle.tab_words.specs.Texts.{texts_below};
 ghost use Rattle.vcpu_names.specs.Names.{name_at as name_of};
 ghost use Rattle.tab_io.specs.Sinks.{Writes};
-ghost use Rattle.view_export.specs.Json.{bare_row, entry_head, entry_row, json_begin, json_of, json_text, kind_text, quoted_holder, row_begin, row_end, slot_head, stint_head, stretch_row, table_of, task_row, vcpu_row};
+ghost use Rattle.view_export.specs.Json.{bare_row, entry_head, entry_row, json_begin, json_of, json_table, json_text, kind_text, quoted_holder, row_begin, row_end, slot_head, stint_head, stretch_row, task_row, vcpu_row};
 
 use crate::shown::{how_text, name_at};
 use tab_core::{Name, VcpuNo};
@@ -100,7 +100,7 @@ fn put_slot_table<K: Sink>(
     slots: &[Stretch],
 ) -> Result<(), WriteFault>
     ensures { Writes (K.state sink.old) (K.state sink.new)
-        (table_of slot_head (stretch_row names.now) slots.now) result }
+        (json_table slot_head (stretch_row names.now) slots.now) result }
 {
     write_all(
         sink,
@@ -116,7 +116,7 @@ fn put_stint_table<K: Sink>(
     stints: &[Stretch],
 ) -> Result<(), WriteFault>
     ensures { Writes (K.state sink.old) (K.state sink.new)
-        (table_of stint_head (stretch_row names.now) stints.now) result }
+        (json_table stint_head (stretch_row names.now) stints.now) result }
 {
     write_all(
         sink,
@@ -128,7 +128,7 @@ fn put_stint_table<K: Sink>(
 // Writes the table of the entries.
 fn put_entry_table<K: Sink>(sink: &mut K, entries: &[Entry]) -> Result<(), WriteFault>
     ensures { Writes (K.state sink.old) (K.state sink.new)
-        (table_of entry_head entry_row entries.now) result }
+        (json_table entry_head entry_row entries.now) result }
 {
     write_all(sink, b"\n],\"rounds\":[\n[\"core\",\"round\",\"count\"]")?;
     put_entries(sink, entries)

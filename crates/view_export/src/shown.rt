@@ -1,7 +1,8 @@
 ghost use Rattle.std.specs.Prelude.{◌≡◌, ◌≤◌};
 ghost use Rattle.tab_core.specs.declared.TheConstants.{MAX_CORES};
 ghost use Rattle.vcpu_names.specs.Names.{name_at};
-ghost use Rattle.view_export.specs.Shown.{holder_name, how_text, lanes_in, reach_of, shown_in};
+ghost use Rattle.view_doc.specs.Views.{reach_of, shown_in};
+ghost use Rattle.view_export.specs.Shown.{holder_name, how_text, lanes_in};
 
 use tab_core::{Name, VcpuNo};
 use view_doc::{Stretch, Use, View};

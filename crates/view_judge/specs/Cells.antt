@@ -1,19 +1,19 @@
 -- The cells of the tables of a judgement: numbers, or a dash where there is none.
 use Rattle.std.specs.Prelude.{ℕ, List, codes, Option, Some, None}
-use Rattle.table_cells.specs.Cells.{count_cell, millis_cell, percent_cell, right}
+use Rattle.view_cells.specs.Cells.{count_cell, millis_cell, percent_cell, right}
 use Rattle.tab_core.specs.declared.reservation.Reservation.{Reservation}
-use Rattle.trace_judge.specs.declared.report.LeastShare.{LeastShare}
-use Rattle.trace_judge.specs.declared.report.LongestWait.{LongestWait}
+use Rattle.host_judge.specs.declared.report.LeastShare.{LeastShare}
+use Rattle.host_judge.specs.declared.report.LongestWait.{LongestWait}
 
 -- the share that a vCPU asked for, in percent, or a dash
-abbrev pub asked_cell : Option Reservation → List ℕ
-asked_cell None = right 8 (codes "-")
-asked_cell (Some r) = percent_cell 3 r.share_ppm
+abbrev pub judged_asked_cell : Option Reservation → List ℕ
+judged_asked_cell None = right 8 (codes "-")
+judged_asked_cell (Some r) = percent_cell 3 r.share_ppm
 
 -- the latency that a vCPU was promised, in milliseconds, or a dash
-abbrev pub promised_cell : Option Reservation → List ℕ
-promised_cell None = right 11 (codes "-")
-promised_cell (Some r) = millis_cell 7 r.latency_ns
+abbrev pub judged_promised_cell : Option Reservation → List ℕ
+judged_promised_cell None = right 11 (codes "-")
+judged_promised_cell (Some r) = millis_cell 7 r.latency_ns
 
 -- the least share of a window, in percent, or a dash
 abbrev pub least_cell : Option LeastShare → List ℕ

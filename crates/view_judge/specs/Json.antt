@@ -1,13 +1,14 @@
 -- What a judge says of a trace as JSON: an object, in which the host's vCPUs are in their order.
 -- Source: RFC 8259. Names need no escape.
-use Rattle.std.specs.Prelude.{◌==◌, ℕ, Bool, true, false, if◌then◌else◌, ◌++◌, List, [], codes, decimal, length, Option, Some, None, slice_get}
+use Rattle.std.specs.Prelude.{ℕ, Bool, true, false, ◌++◌, List, [], codes, decimal, length, Option, Some, None, slice_get}
 use Rattle.tab_core.specs.declared.vcpu.Vcpu.{Vcpu}
 use Rattle.tab_words.specs.Texts.{texts_below}
-use Rattle.trace_judge.specs.declared.report.LeastShare.{LeastShare}
-use Rattle.trace_judge.specs.declared.report.LongestWait.{LongestWait}
-use Rattle.trace_judge.specs.declared.report.Report.{Report}
-use Rattle.trace_judge.specs.declared.report.VcpuReport.{VcpuReport}
-use Rattle.view_judge.specs.Verdicts.{is_kept}
+use Rattle.host_judge.specs.declared.report.LeastShare.{LeastShare}
+use Rattle.host_judge.specs.declared.report.LongestWait.{LongestWait}
+use Rattle.host_judge.specs.declared.report.Report.{Report}
+use Rattle.host_judge.specs.declared.report.VcpuReport.{VcpuReport}
+use Rattle.view_cells.specs.CellTexts.{comma_before, truth_text}
+use Rattle.view_judge.specs.Verdicts.{are_promises_kept}
 
 -- ---- the members of a vCPU's object
 
@@ -18,33 +19,33 @@ times_text name report = codes "{\"name\":\"" ++ (name ++ (codes "\",\"run_ns\":
     ++ codes ",")))))))
 
 -- the members of a longest wait
-unfoldable pub wait_text : LongestWait → List ℕ
-wait_text wait = codes "\"longest_wait_ns\":" ++ (decimal wait.ns ++ (codes ",\"longest_wait_at_ns\":"
+unfoldable pub longest_wait_json : LongestWait → List ℕ
+longest_wait_json wait = codes "\"longest_wait_ns\":" ++ (decimal wait.ns ++ (codes ",\"longest_wait_at_ns\":"
     ++ (decimal wait.at_ns ++ codes ",")))
 
 -- the members of the longest wait, which are null where there is none
 abbrev pub longest_text : Option LongestWait → List ℕ
 longest_text None = codes "\"longest_wait_ns\":null,\"longest_wait_at_ns\":null,"
-longest_text (Some wait) = wait_text wait
+longest_text (Some wait) = longest_wait_json wait
 
 -- the member of how many waits were too long
-unfoldable pub count_text : ℕ → List ℕ
-count_text count = codes "\"late_waits\":" ++ (decimal count ++ codes ",")
+unfoldable pub late_waits_json : ℕ → List ℕ
+late_waits_json count = codes "\"late_waits\":" ++ (decimal count ++ codes ",")
 
 -- the member of how many waits were too long, which is null where no latency was promised
 abbrev pub late_text : Option ℕ → List ℕ
 late_text None = codes "\"late_waits\":null,"
-late_text (Some count) = count_text count
+late_text (Some count) = late_waits_json count
 
 -- the members of a least share
-unfoldable pub share_text : LeastShare → List ℕ
-share_text least = codes "\"least_share_ppm\":" ++ (decimal least.share_ppm ++ (codes ",\"least_share_at_ns\":"
+unfoldable pub least_share_json : LeastShare → List ℕ
+least_share_json least = codes "\"least_share_ppm\":" ++ (decimal least.share_ppm ++ (codes ",\"least_share_at_ns\":"
     ++ (decimal least.at_ns ++ codes ",")))
 
 -- the members of the least share of a window, which are null where there is none
 abbrev pub least_text : Option LeastShare → List ℕ
 least_text None = codes "\"least_share_ppm\":null,\"least_share_at_ns\":null,"
-least_text (Some least) = share_text least
+least_text (Some least) = least_share_json least
 
 -- the member of whether all was kept, which ends a vCPU's object
 abbrev pub kept_text : Bool → List ℕ
@@ -68,29 +69,20 @@ abbrev pub object_of : Option Vcpu → Option VcpuReport → List ℕ
 object_of None report = []
 object_of (Some vcpu) report = said_of vcpu.name report
 
--- a comma before each but the first
-abbrev pub comma_before : ℕ → List ℕ
-comma_before v = if v == 0 then [] else codes ","
-
 -- what is there for the vCPU of a number
 abbrev pub entry_text : List Vcpu → List VcpuReport → ℕ → List ℕ
 entry_text vcpus reports v = comma_before v ++ object_of (slice_get vcpus v) (slice_get reports v)
 
--- the word of JSON for whether something is so
-abbrev pub truth_text : Bool → List ℕ
-truth_text true = codes "true"
-truth_text false = codes "false"
-
 -- the text up to the vCPUs
-unfoldable pub json_begin : ℕ → List ℕ → List ℕ
-json_begin window kept = codes "{\"form\":1,\"window_ns\":" ++ (decimal window ++ (codes ",\"kept\":"
+unfoldable pub judgement_json_begin : ℕ → List ℕ → List ℕ
+judgement_json_begin window kept = codes "{\"form\":1,\"window_ns\":" ++ (decimal window ++ (codes ",\"kept\":"
     ++ (kept ++ codes ",\"vcpus\":[")))
 
 -- the text of what is said of the vCPUs of a host
-abbrev pub json_of : ℕ → Bool → List Vcpu → List VcpuReport → List ℕ
-json_of window kept vcpus reports = json_begin window (truth_text kept)
+abbrev pub judgement_json_of : ℕ → Bool → List Vcpu → List VcpuReport → List ℕ
+judgement_json_of window kept vcpus reports = judgement_json_begin window (truth_text kept)
     ++ (texts_below (entry_text vcpus reports) (length reports) ++ codes "]}\n")
 
 -- what a judge reports of a host's vCPUs, as JSON
-abbrev pub json_text : List Vcpu → Report → List ℕ
-json_text vcpus report = json_of report.window_ns (is_kept report) vcpus report.vcpus.items
+abbrev pub judgement_json : List Vcpu → Report → List ℕ
+judgement_json vcpus report = judgement_json_of report.window_ns (are_promises_kept report) vcpus report.vcpus.items

@@ -4,13 +4,13 @@ use Rattle.std.specs.Prelude.{ℕ, Bool, true, false, ◌++◌, List, [], codes,
 use Rattle.tab_core.specs.declared.reservation.Reservation.{Reservation}
 use Rattle.tab_core.specs.declared.vcpu.Vcpu.{Vcpu}
 use Rattle.tab_words.specs.Texts.{texts_below}
-use Rattle.table_cells.specs.Cells.{left, millis_cell, right, width_below, yes_or_no}
-use Rattle.trace_judge.specs.declared.report.LineCount.{LineCount}
-use Rattle.trace_judge.specs.declared.report.Report.{Report}
-use Rattle.trace_judge.specs.declared.report.VcpuReport.{VcpuReport}
+use Rattle.view_cells.specs.Cells.{left, millis_cell, right, width_below, yes_or_no}
+use Rattle.host_judge.specs.declared.report.LineCount.{LineCount}
+use Rattle.host_judge.specs.declared.report.Report.{Report}
+use Rattle.host_judge.specs.declared.report.VcpuReport.{VcpuReport}
 use Rattle.vcpu_names.specs.Names.{names_of}
-use Rattle.view_judge.specs.Cells.{asked_cell, begin_cell, cpu_cell, late_cell, least_cell, longest_cell, promised_cell, window_cell}
-use Rattle.view_judge.specs.Verdicts.{is_kept}
+use Rattle.view_judge.specs.Cells.{begin_cell, cpu_cell, judged_asked_cell, judged_promised_cell, late_cell, least_cell, longest_cell, window_cell}
+use Rattle.view_judge.specs.Verdicts.{are_promises_kept}
 
 -- what parts a column from the one before
 abbrev pub gap : List ℕ
@@ -29,7 +29,7 @@ share_cells width name reserved report = left width name
     ++ (gap ++ (millis_cell 7 report.run_ns
     ++ (gap ++ (millis_cell 7 report.wait_ns
     ++ (gap ++ (millis_cell 7 report.block_ns
-    ++ (gap ++ (asked_cell reserved
+    ++ (gap ++ (judged_asked_cell reserved
     ++ (gap ++ (least_cell report.least
     ++ (gap ++ (window_cell report.least ++ codes "\n"))))))))))))
 
@@ -61,7 +61,7 @@ wait_cells width name reserved report = left width name
     ++ (gap ++ (longest_cell report.longest
     ++ (gap ++ (begin_cell report.longest
     ++ (gap ++ (cpu_cell report.longest
-    ++ (gap ++ (promised_cell reserved
+    ++ (gap ++ (judged_promised_cell reserved
     ++ (gap ++ (late_cell report.late
     ++ (gap ++ (right 4 (yes_or_no report.kept) ++ codes "\n"))))))))))))
 
@@ -102,8 +102,8 @@ first_text kind count None = []
 first_text kind count (Some first) = line_text kind count first
 
 -- the line of lines of a kind, and nothing where there is no such line
-abbrev pub count_text : List ℕ → LineCount → List ℕ
-count_text kind lines = first_text kind lines.count lines.first
+abbrev pub line_count_text : List ℕ → LineCount → List ℕ
+line_count_text kind lines = first_text kind lines.count lines.first
 
 -- the name of lines after which two vCPUs run on one CPU
 abbrev pub shared_kind : List ℕ
@@ -123,8 +123,8 @@ unknown_kind = codes "lines of a vCPU that the host doesn't have"
 
 -- what is wrong with the trace itself
 abbrev pub lines_text : Report → List ℕ
-lines_text report = count_text shared_kind report.shared ++ (count_text doubled_kind report.doubled
-    ++ (count_text fall_kind report.falls ++ count_text unknown_kind report.unknown))
+lines_text report = line_count_text shared_kind report.shared ++ (line_count_text doubled_kind report.doubled
+    ++ (line_count_text fall_kind report.falls ++ line_count_text unknown_kind report.unknown))
 
 -- the tables of shares and of waits, with names in a column of so many bytes
 abbrev pub rows_text : ℕ → List Vcpu → List VcpuReport → List ℕ
@@ -132,13 +132,13 @@ rows_text width vcpus reports = share_head width ++ (texts_below (share_row widt
     ++ (wait_head width ++ texts_below (wait_row width vcpus reports) (length reports)))
 
 -- what is after the tables: the verdict, and what is wrong with the lines of the trace
-abbrev pub end_text : Bool → Report → List ℕ
-end_text kept report = verdict_text report.end_ns report.window_ns (kept_word kept) ++ lines_text report
+abbrev pub judgement_end : Bool → Report → List ℕ
+judgement_end kept report = verdict_text report.end_ns report.window_ns (kept_word kept) ++ lines_text report
 
 -- the tables and the end of a report, with names in a column of so many bytes
 abbrev pub tables_of : ℕ → Bool → List Vcpu → Report → List ℕ
-tables_of width kept vcpus report = rows_text width vcpus report.vcpus.items ++ end_text kept report
+tables_of width kept vcpus report = rows_text width vcpus report.vcpus.items ++ judgement_end kept report
 
 -- what a judge reports of a host's vCPUs, as tables
 abbrev pub tables_text : List Vcpu → Report → List ℕ
-tables_text vcpus report = tables_of (width_below (names_of vcpus) (length vcpus)) (is_kept report) vcpus report
+tables_text vcpus report = tables_of (width_below (names_of vcpus) (length vcpus)) (are_promises_kept report) vcpus report

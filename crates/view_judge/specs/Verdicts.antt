@@ -1,8 +1,8 @@
 -- Whether a trace shows that a host kept its promises.
 use Rattle.std.specs.Prelude.{◌==◌, ◌&&◌, Bool, List}
 use Rattle.std.specs.List.{list_all}
-use Rattle.trace_judge.specs.declared.report.Report.{Report}
-use Rattle.trace_judge.specs.declared.report.VcpuReport.{VcpuReport}
+use Rattle.host_judge.specs.declared.report.Report.{Report}
+use Rattle.host_judge.specs.declared.report.VcpuReport.{VcpuReport}
 
 -- the trace doesn't contradict itself: no time falls, no CPU has two vCPUs at a time, and no vCPU has two CPUs
 abbrev pub is_sound : Report → Bool
@@ -13,5 +13,5 @@ abbrev pub all_kept : List VcpuReport → Bool
 all_kept vcpus = list_all (λ vcpu. vcpu.kept) vcpus
 
 -- the host kept its promises, by a trace that doesn't contradict itself. What other hosts' vCPUs do changes nothing
-abbrev pub is_kept : Report → Bool
-is_kept report = is_sound report && all_kept report.vcpus.items
+abbrev pub are_promises_kept : Report → Bool
+are_promises_kept report = is_sound report && all_kept report.vcpus.items

@@ -1,12 +1,12 @@
 ghost use Rattle.std.specs.Prelude.{◌≡◌, length};
-ghost use Rattle.table_cells.specs.CellTexts.{cell_text};
-ghost use Rattle.table_cells.specs.Cells.{width_below};
+ghost use Rattle.view_cells.specs.CellTexts.{cell_text};
+ghost use Rattle.view_cells.specs.Cells.{width_below};
 ghost use Rattle.vcpu_names.specs.Names.{names_of};
-ghost use Rattle.view_judge.specs.Cells.{asked_cell, begin_cell, cpu_cell, late_cell, least_cell, longest_cell, number_cell, promised_cell, window_cell};
+ghost use Rattle.view_judge.specs.Cells.{begin_cell, cpu_cell, judged_asked_cell, judged_promised_cell, late_cell, least_cell, longest_cell, number_cell, window_cell};
 
+use host_judge::{LeastShare, LongestWait};
 use tab_core::{Reservation, Vcpu};
-use table_cells::Cell;
-use trace_judge::{LeastShare, LongestWait};
+use view_cells::Cell;
 
 // The width of the column of names.
 pub(crate) fn width_of(vcpus: &[Vcpu]) -> usize
@@ -21,7 +21,7 @@ pub(crate) fn width_of(vcpus: &[Vcpu]) -> usize
 
 // The share that was asked for.
 pub(crate) fn asked_cell(reserved: &Option<Reservation>) -> Cell<'static>
-    ensures { cell_text result ≡ asked_cell reserved.now }
+    ensures { cell_text result ≡ judged_asked_cell reserved.now }
 {
     match reserved {
         Some(r) => Cell::Percent(3, u64::from(r.share_ppm)),
@@ -31,7 +31,7 @@ pub(crate) fn asked_cell(reserved: &Option<Reservation>) -> Cell<'static>
 
 // The latency that was promised.
 pub(crate) fn promised_cell(reserved: &Option<Reservation>) -> Cell<'static>
-    ensures { cell_text result ≡ promised_cell reserved.now }
+    ensures { cell_text result ≡ judged_promised_cell reserved.now }
 {
     match reserved {
         Some(r) => Cell::Millis(7, r.latency_ns),

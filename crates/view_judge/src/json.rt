@@ -1,13 +1,14 @@
 ghost use Rattle.std.specs.Prelude.{◌≡◌, length, slice_get};
 ghost use Rattle.tab_io.specs.Sinks.{Writes};
 ghost use Rattle.tab_words.specs.Texts.{texts_below};
-ghost use Rattle.view_judge.specs.Json.{comma_before, count_text, entry_text, json_begin, json_of, json_text, kept_text, late_text, least_text, longest_text, object_of, said_of, share_text, times_text, truth_text, vcpu_object, wait_text};
+ghost use Rattle.view_cells.specs.CellTexts.{comma_before, truth_text};
+ghost use Rattle.view_judge.specs.Json.{entry_text, judgement_json, judgement_json_begin, judgement_json_of, kept_text, late_text, late_waits_json, least_share_json, least_text, longest_text, longest_wait_json, object_of, said_of, times_text, vcpu_object};
 
 use crate::verdict::is_kept;
+use host_judge::{LeastShare, LongestWait, Report, VcpuReport};
 use tab_core::Vcpu;
 use tab_io::{Sink, WriteFault, write_all};
 use tab_words::{TextPiece, put_pieces};
-use trace_judge::{LeastShare, LongestWait, Report, VcpuReport};
 
 /// Writes what is said of the vCPUs of a host as JSON, in one line: the length of a window in ns, whether the host kept
 /// its promises, and an object for each vCPU in the host's order.
@@ -17,7 +18,7 @@ use trace_judge::{LeastShare, LongestWait, Report, VcpuReport};
 ///
 /// A fault leaves a prefix of the text in the sink. Nothing is settled, and nothing is allocated.
 pub fn write_json<K: Sink>(sink: &mut K, vcpus: &[Vcpu], report: &Report) -> Result<(), WriteFault>
-    ensures { Writes (K.state sink.old) (K.state sink.new) (json_text vcpus.now report.now) result }
+    ensures { Writes (K.state sink.old) (K.state sink.new) (judgement_json vcpus.now report.now) result }
 {
     put_json(
         sink,
@@ -35,7 +36,7 @@ fn put_json<K: Sink>(
     vcpus: &[Vcpu],
     reports: &[VcpuReport],
 ) -> Result<(), WriteFault>
-    ensures { Writes (K.state sink.old) (K.state sink.new) (json_of window_ns kept vcpus.now reports.now) result }
+    ensures { Writes (K.state sink.old) (K.state sink.new) (judgement_json_of window_ns kept vcpus.now reports.now) result }
 {
     put_begin(sink, window_ns, kept)?;
     put_entries(sink, vcpus, reports)?;
@@ -50,14 +51,14 @@ fn truth_text(truth: bool) -> &'static [u8]
 
 // Writes the text up to the vCPUs.
 fn put_begin<K: Sink>(sink: &mut K, window_ns: u64, kept: bool) -> Result<(), WriteFault>
-    ensures { Writes (K.state sink.old) (K.state sink.new) (json_begin window_ns (truth_text kept)) result }
+    ensures { Writes (K.state sink.old) (K.state sink.new) (judgement_json_begin window_ns (truth_text kept)) result }
 {
     put_window(sink, window_ns, truth_text(kept))
 }
 
-#[tactic(auto, unfolding(crate::specs::Json::json_begin))]
+#[tactic(auto, unfolding(crate::specs::Json::judgement_json_begin))]
 fn put_window<K: Sink>(sink: &mut K, window_ns: u64, kept: &[u8]) -> Result<(), WriteFault>
-    ensures { Writes (K.state sink.old) (K.state sink.new) (json_begin window_ns kept.now) result }
+    ensures { Writes (K.state sink.old) (K.state sink.new) (judgement_json_begin window_ns kept.now) result }
 {
     put_pieces(
         sink,
@@ -180,9 +181,9 @@ fn put_longest<K: Sink>(sink: &mut K, longest: &Option<LongestWait>) -> Result<(
     }
 }
 
-#[tactic(auto, unfolding(crate::specs::Json::wait_text))]
+#[tactic(auto, unfolding(crate::specs::Json::longest_wait_json))]
 fn put_wait<K: Sink>(sink: &mut K, wait: &LongestWait) -> Result<(), WriteFault>
-    ensures { Writes (K.state sink.old) (K.state sink.new) (wait_text wait.now) result }
+    ensures { Writes (K.state sink.old) (K.state sink.new) (longest_wait_json wait.now) result }
 {
     put_pieces(
         sink,
@@ -205,9 +206,9 @@ fn put_late<K: Sink>(sink: &mut K, late: Option<u64>) -> Result<(), WriteFault>
     }
 }
 
-#[tactic(auto, unfolding(crate::specs::Json::count_text))]
+#[tactic(auto, unfolding(crate::specs::Json::late_waits_json))]
 fn put_count<K: Sink>(sink: &mut K, count: u64) -> Result<(), WriteFault>
-    ensures { Writes (K.state sink.old) (K.state sink.new) (count_text count) result }
+    ensures { Writes (K.state sink.old) (K.state sink.new) (late_waits_json count) result }
 {
     put_pieces(
         sink,
@@ -231,9 +232,9 @@ fn put_least<K: Sink>(sink: &mut K, least: &Option<LeastShare>) -> Result<(), Wr
     }
 }
 
-#[tactic(auto, unfolding(crate::specs::Json::share_text))]
+#[tactic(auto, unfolding(crate::specs::Json::least_share_json))]
 fn put_share<K: Sink>(sink: &mut K, least: &LeastShare) -> Result<(), WriteFault>
-    ensures { Writes (K.state sink.old) (K.state sink.new) (share_text least.now) result }
+    ensures { Writes (K.state sink.old) (K.state sink.new) (least_share_json least.now) result }
 {
     put_pieces(
         sink,

@@ -1,18 +1,18 @@
 ghost use Rattle.std.specs.Prelude.{◌≡◌, length, slice_get};
 ghost use Rattle.tab_io.specs.Sinks.{Writes};
 ghost use Rattle.tab_words.specs.Texts.{texts_below};
-ghost use Rattle.view_judge.specs.Tables.{count_text, doubled_kind, end_text, fall_kind, kept_word, line_text, lines_text, rows_text, share_cells, share_head, share_row, share_said, shared_kind, tables_of, tables_text, unknown_kind, verdict_text, wait_cells, wait_head, wait_row, wait_said};
+ghost use Rattle.view_judge.specs.Tables.{doubled_kind, fall_kind, judgement_end, kept_word, line_count_text, line_text, lines_text, rows_text, share_cells, share_head, share_row, share_said, shared_kind, tables_of, tables_text, unknown_kind, verdict_text, wait_cells, wait_head, wait_row, wait_said};
 
 use crate::cells::{
     asked_cell, begin_cell, cpu_cell, late_cell, least_cell, longest_cell, promised_cell, width_of,
     window_cell,
 };
 use crate::verdict::is_kept;
+use host_judge::{LineCount, Report, VcpuReport};
 use tab_core::{Reservation, Vcpu};
 use tab_io::{Sink, WriteFault};
 use tab_words::{TextPiece, put_pieces};
-use table_cells::{Cell, put_cells, yes_or_no};
-use trace_judge::{LineCount, Report, VcpuReport};
+use view_cells::{Cell, put_cells, yes_or_no};
 
 /// Writes what is said of the vCPUs of a host as tables.
 ///
@@ -62,7 +62,7 @@ fn put_rows<K: Sink>(
 
 // Writes what is after them.
 fn put_end<K: Sink>(sink: &mut K, kept: bool, report: &Report) -> Result<(), WriteFault>
-    ensures { Writes (K.state sink.old) (K.state sink.new) (end_text kept report.now) result }
+    ensures { Writes (K.state sink.old) (K.state sink.new) (judgement_end kept report.now) result }
 {
     put_verdict(sink, report.end_ns, report.window_ns, kept)?;
     put_lines(sink, report)
@@ -299,32 +299,32 @@ fn put_lines<K: Sink>(sink: &mut K, report: &Report) -> Result<(), WriteFault>
 }
 
 fn put_shared<K: Sink>(sink: &mut K, lines: &LineCount) -> Result<(), WriteFault>
-    ensures { Writes (K.state sink.old) (K.state sink.new) (count_text shared_kind lines.now) result }
+    ensures { Writes (K.state sink.old) (K.state sink.new) (line_count_text shared_kind lines.now) result }
 {
     put_count(sink, b"lines that put two vCPUs on one CPU", lines)
 }
 
 fn put_doubled<K: Sink>(sink: &mut K, lines: &LineCount) -> Result<(), WriteFault>
-    ensures { Writes (K.state sink.old) (K.state sink.new) (count_text doubled_kind lines.now) result }
+    ensures { Writes (K.state sink.old) (K.state sink.new) (line_count_text doubled_kind lines.now) result }
 {
     put_count(sink, b"lines that put a vCPU on two CPUs", lines)
 }
 
 fn put_falls<K: Sink>(sink: &mut K, lines: &LineCount) -> Result<(), WriteFault>
-    ensures { Writes (K.state sink.old) (K.state sink.new) (count_text fall_kind lines.now) result }
+    ensures { Writes (K.state sink.old) (K.state sink.new) (line_count_text fall_kind lines.now) result }
 {
     put_count(sink, b"lines whose time falls", lines)
 }
 
 fn put_unknown<K: Sink>(sink: &mut K, lines: &LineCount) -> Result<(), WriteFault>
-    ensures { Writes (K.state sink.old) (K.state sink.new) (count_text unknown_kind lines.now) result }
+    ensures { Writes (K.state sink.old) (K.state sink.new) (line_count_text unknown_kind lines.now) result }
 {
     put_count(sink, b"lines of a vCPU that the host doesn't have", lines)
 }
 
 // Writes how many lines are of a kind, and the first, where there is one.
 fn put_count<K: Sink>(sink: &mut K, kind: &[u8], lines: &LineCount) -> Result<(), WriteFault>
-    ensures { Writes (K.state sink.old) (K.state sink.new) (count_text kind.now lines.now) result }
+    ensures { Writes (K.state sink.old) (K.state sink.new) (line_count_text kind.now lines.now) result }
 {
     match lines.first {
         Some(first) => put_line(sink, kind, lines.count, first),

@@ -7,7 +7,7 @@ use Rattle.std.specs.Prelude.{◌==◌, ◌&&◌, ◌||◌, ◌%◌, if◌then�
 use Rattle.tab_core.specs.declared.TheConstants.{MAX_CORES}
 use Rattle.view_doc.specs.declared.view.Stretch.{Stretch}
 use Rattle.view_doc.specs.declared.view.Task.{Task}
-use Rattle.view_lanes.specs.Colours.{colours_below, colours_of, first_free, is_taken, meets, meets_below, met_below, next_colour, stands_on, taken_below}
+use Rattle.view_lanes.specs.Colours.{belongs_to_core, colours_below, colours_of, first_free, is_colour_taken, meets, meets_below, met_below, next_colour, taken_below}
 
 -- ---- the colours by number
 
@@ -171,10 +171,10 @@ other_colour on vcpus u v less low met few =
           λ is. absurd (omega (arith, is, one, other, less))
       | inr many ↦
           let other : slice_index (colours_below on vcpus vcpus) v
-          ≡ first_free (is_taken on lower v) (24 + v % 24) 0 12 = at_v ∙ rw many refl in
-          elim (free_one (is_taken on lower v) (24 + v % 24) 0 12) [
+          ≡ first_free (is_colour_taken on lower v) (24 + v % 24) 0 12 = at_v ∙ rw many refl in
+          elim (free_one (is_colour_taken on lower v) (24 + v % 24) 0 12) [
             | inl free ↦ λ is.
-                untaken on lower v (first_free (is_taken on lower v) (24 + v % 24) 0 12) v u less met free
+                untaken on lower v (first_free (is_colour_taken on lower v) (24 + v % 24) 0 12) v u less met free
                 (sym at_u ∙ (is ∙ other))
             | inr taken ↦
                 let twelve = all_counted (λ k. taken_below on lower v k v) 12
@@ -185,9 +185,9 @@ other_colour on vcpus u v less low met few =
     ]
 
 pub lane_colours : (stretches : List Stretch) (tasks : List Task) (vcpus u v core : ℕ) → u < v → v < vcpus
-    → core < MAX_CORES → stands_on stretches tasks core u ≡ true → stands_on stretches tasks core v ≡ true
-    → met_below (stands_on stretches tasks) v v < 12
+    → core < MAX_CORES → belongs_to_core stretches tasks core u ≡ true → belongs_to_core stretches tasks core v ≡ true
+    → met_below (belongs_to_core stretches tasks) v v < 12
     → slice_index (colours_of stretches tasks vcpus) u ≢ slice_index (colours_of stretches tasks vcpus) v
 lane_colours stretches tasks vcpus u v core less low there one other few =
-    other_colour (stands_on stretches tasks) vcpus u v less low
-    (on_meets (stands_on stretches tasks) u v core MAX_CORES there one other) few
+    other_colour (belongs_to_core stretches tasks) vcpus u v less low
+    (on_meets (belongs_to_core stretches tasks) u v core MAX_CORES there one other) few

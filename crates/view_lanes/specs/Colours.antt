@@ -7,13 +7,14 @@ use Rattle.tab_core.specs.declared.TheConstants.{MAX_CORES}
 use Rattle.view_doc.specs.declared.view.Stretch.{Stretch}
 use Rattle.view_doc.specs.declared.view.Task.{Task}
 use Rattle.view_doc.specs.declared.view.View.{View}
+use Rattle.view_doc.specs.Views.{shown_in}
 use Rattle.view_table.specs.declared.figures.Figures.{Figures}
-use Rattle.view_lanes.specs.Shown.{has_it, shown_in}
+use Rattle.view_lanes.specs.Shown.{has_it}
 
 -- one of the numbers below n passes the test
-abbrev pub any_below : (ℕ → Bool) → ℕ → Bool
-any_below test zero = false
-any_below test (suc n) = any_below test n || test n
+abbrev pub some_below : (ℕ → Bool) → ℕ → Bool
+some_below test zero = false
+some_below test (suc n) = some_below test n || test n
 
 -- the vCPU's home is the core
 abbrev pub is_home : Option Task → ℕ → Bool
@@ -25,12 +26,12 @@ abbrev pub runs_on : List Stretch → ℕ → ℕ → Bool
 runs_on stretches core v = list_any (λ s. (s.core == core) && has_it s.by v) stretches
 
 -- the vCPU is on the core: it has a stretch there, or its home
-abbrev pub stands_on : List Stretch → List Task → ℕ → ℕ → Bool
-stands_on stretches tasks core v = runs_on stretches core v || is_home (slice_get tasks v) core
+abbrev pub belongs_to_core : List Stretch → List Task → ℕ → ℕ → Bool
+belongs_to_core stretches tasks core v = runs_on stretches core v || is_home (slice_get tasks v) core
 
 -- one of the cores below a number has both vCPUs
 abbrev pub meets_below : (ℕ → ℕ → Bool) → ℕ → ℕ → ℕ → Bool
-meets_below on u v cores = any_below (λ core. on core u && on core v) cores
+meets_below on u v cores = some_below (λ core. on core u && on core v) cores
 
 -- some core has both vCPUs
 abbrev pub meets : (ℕ → ℕ → Bool) → ℕ → ℕ → Bool
@@ -38,11 +39,11 @@ meets on u v = meets_below on u v MAX_CORES
 
 -- one that a vCPU meets has the colour, of those below a number
 abbrev pub taken_below : (ℕ → ℕ → Bool) → List ℕ → ℕ → ℕ → ℕ → Bool
-taken_below on colours v k n = any_below (λ u. (slice_index colours u == k) && meets on u v) n
+taken_below on colours v k n = some_below (λ u. (slice_index colours u == k) && meets on u v) n
 
 -- a lower vCPU that this one meets has the colour
-abbrev pub is_taken : (ℕ → ℕ → Bool) → List ℕ → ℕ → ℕ → Bool
-is_taken on colours v k = taken_below on colours v k v
+abbrev pub is_colour_taken : (ℕ → ℕ → Bool) → List ℕ → ℕ → ℕ → Bool
+is_colour_taken on colours v k = taken_below on colours v k v
 
 -- the first of so many colours from one on that isn't taken, or another
 abbrev pub first_free : (ℕ → Bool) → ℕ → ℕ → ℕ → ℕ
@@ -52,7 +53,7 @@ first_free taken other k (suc n) = if taken k then first_free taken other (suc k
 -- the colour of a vCPU, after those of the lower ones
 abbrev pub next_colour : (ℕ → ℕ → Bool) → ℕ → List ℕ → ℕ → ℕ
 next_colour on vcpus colours v =
-    if nat_le vcpus 12 then v else first_free (is_taken on colours v) (24 + v % 24) 0 12
+    if nat_le vcpus 12 then v else first_free (is_colour_taken on colours v) (24 + v % 24) 0 12
 
 -- the colours of those below a number, of so many
 abbrev pub colours_below : (ℕ → ℕ → Bool) → ℕ → ℕ → List ℕ
@@ -62,7 +63,7 @@ colours_below on vcpus (suc v) =
 
 -- the colours of all vCPUs, by number
 abbrev pub colours_of : List Stretch → List Task → ℕ → List ℕ
-colours_of stretches tasks vcpus = colours_below (stands_on stretches tasks) vcpus vcpus
+colours_of stretches tasks vcpus = colours_below (belongs_to_core stretches tasks) vcpus vcpus
 
 -- how many of the vCPUs below a number one meets
 abbrev pub met_below : (ℕ → ℕ → Bool) → ℕ → ℕ → ℕ
@@ -74,7 +75,7 @@ met_below on v (suc u) = met_below on v u + (if meets on u v then 1 else 0)
 -- one of the cores below a number passes the test, and a lower one passes it too
 abbrev pub twice_below : (ℕ → Bool) → ℕ → Bool
 twice_below test zero = false
-twice_below test (suc n) = twice_below test n || (test n && any_below test n)
+twice_below test (suc n) = twice_below test n || (test n && some_below test n)
 
 -- the vCPU has a slot on the core
 abbrev pub stands_at : Figures → ℕ → ℕ → Bool

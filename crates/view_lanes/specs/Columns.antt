@@ -25,5 +25,5 @@ abbrev pub sum_of : (ℕ → Bool) → Frame → ℕ → List Bar → ℕ → �
 sum_of some f columns bars j = sum_by (λ bar. if some bar.key then ticks_in f columns j bar else 0) bars
 
 -- how many ticks of a column the bars have whose keys pass the test: at most as many as the column has
-abbrev pub ticks_of : (ℕ → Bool) → Frame → ℕ → List Bar → ℕ → ℕ
-ticks_of some f columns bars j = min (width_at f columns j) (sum_of some f columns bars j)
+abbrev pub column_ticks : (ℕ → Bool) → Frame → ℕ → List Bar → ℕ → ℕ
+column_ticks some f columns bars j = min (width_at f columns j) (sum_of some f columns bars j)

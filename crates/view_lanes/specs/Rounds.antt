@@ -14,10 +14,10 @@ abbrev pub rounds_shown : Frame → ℕ
 rounds_shown f = (f.to - 1) / ROUND + 1 - f.from / ROUND
 
 -- how many events the plan of a round includes: so many as the first stint says that begins in it
-abbrev pub used_in : List Stretch → ℕ → Option ℕ
-used_in [] r = None
-used_in (s ∷ ss) r = if s.from / ROUND == r then Some s.used else used_in ss r
+abbrev pub used_count_in : List Stretch → ℕ → Option ℕ
+used_count_in [] r = None
+used_count_in (s ∷ ss) r = if s.from / ROUND == r then Some s.used else used_count_in ss r
 
 -- the counts of 24 rounds from one on
 abbrev pub AreUsed : List Stretch → ℕ → List (Option ℕ) → Type 0
-AreUsed stretches first counts = (k : ℕ) → k < 24 → slice_index_or counts k None ≡ used_in stretches (first + k)
+AreUsed stretches first counts = (k : ℕ) → k < 24 → slice_index_or counts k None ≡ used_count_in stretches (first + k)

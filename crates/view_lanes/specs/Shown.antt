@@ -6,19 +6,11 @@ use Rattle.view_doc.specs.declared.view.Stretch.{Stretch}
 use Rattle.view_doc.specs.declared.view.Use.{Use}
 use Rattle.view_doc.specs.declared.view.Use.TheVariants.{Idle, Slot, Shared}
 use Rattle.view_doc.specs.declared.view.View.{View}
+use Rattle.view_doc.specs.Views.{reach_of, shown_in}
 use Rattle.view_lanes.specs.Amounts.{per_mille}
 use Rattle.view_lanes.specs.declared.frame.Bar.{Bar}
 use Rattle.view_lanes.specs.declared.frame.ChartOptions.{ChartOptions}
 use Rattle.view_lanes.specs.declared.frame.Frame.{Frame}
-
--- the stints of a run, else the slots of a plan
-abbrev pub shown_in : View → List Stretch
-shown_in view = if view.is_run then view.stints.items else view.slots.items
-
--- how many cores the stretches reach: one more than the greatest number, and 0 where there is none
-abbrev pub reach_of : List Stretch → ℕ
-reach_of [] = 0
-reach_of (s ∷ ss) = max (s.core + 1) (reach_of ss)
 
 -- the count of the cores: that of the plan's, or more where the run has more
 abbrev pub cores_in : View → ℕ
@@ -68,9 +60,9 @@ has_it (Slot owner) v = owner == v
 has_it (Shared owner) v = owner == v
 
 -- a stretch is on the lane of a core, or of a vCPU
-abbrev pub is_on : Bool → ℕ → Stretch → Bool
-is_on false row s = s.core == row
-is_on true row s = has_it s.by row
+abbrev pub is_on_lane : Bool → ℕ → Stretch → Bool
+is_on_lane false row s = s.core == row
+is_on_lane true row s = has_it s.by row
 
 -- what tells the bars of a lane apart: the vCPU on a core's lane, the core on a vCPU's
 abbrev pub key_of : Bool → Stretch → ℕ → ℕ
@@ -96,7 +88,7 @@ held_bars f s (Shared v) = (record {
 -- the bar of a stretch on a lane, if it has ticks there
 abbrev pub bars_in : Frame → ℕ → Stretch → List Bar
 bars_in f row s =
-    if is_on f.by_vcpu row s && (nat_lt s.from f.to && nat_lt f.from s.end) then held_bars f s s.by else []
+    if is_on_lane f.by_vcpu row s && (nat_lt s.from f.to && nat_lt f.from s.end) then held_bars f s s.by else []
 
 -- the bars of a lane, in the order of the text
 abbrev pub lane_bars : Frame → List Stretch → ℕ → List Bar
@@ -134,5 +126,5 @@ chart_lanes view options =
     lanes_below (frame_of view options) (shown_in view) options.first (lanes_of view options)
 
 -- how much of the lanes is somebody's
-abbrev pub share_in : Frame → List (List Bar) → ℕ
-share_in f lanes = per_mille (sum_by (held_in f) lanes) (length lanes * (f.to - f.from))
+abbrev pub lanes_share : Frame → List (List Bar) → ℕ
+lanes_share f lanes = per_mille (sum_by (held_in f) lanes) (length lanes * (f.to - f.from))

@@ -2,7 +2,7 @@
 use Rattle.std.specs.Prelude.{ℕ, ◌==◌, ◌/◌, ◌%◌, ◌++◌, Bool, true, false, List, [], codes, decimal, if◌then◌else◌, ◌-◌, length}
 use Rattle.view_doc.specs.declared.view.Stretch.{Stretch}
 use Rattle.view_lanes.specs.Amounts.{tenths_ms}
-use Rattle.view_lanes.specs.Shown.{rounds_of, share_in, some_boxes, some_dense}
+use Rattle.view_lanes.specs.Shown.{lanes_share, rounds_of, some_boxes, some_dense}
 use Rattle.view_lanes.specs.declared.frame.Bar.{Bar}
 use Rattle.view_lanes.specs.declared.frame.Frame.{Frame}
 use Rattle.view_lanes.specs.declared.titles.Head.{Head}
@@ -19,7 +19,7 @@ head_of f stretches cores vcpus lanes = record {
   from = f.from;
   to = f.to;
   lasting = tenths_ms f.tick (f.to - f.from);
-  share = share_in f lanes;
+  share = lanes_share f lanes;
   boxes = some_boxes lanes;
   columns = some_dense lanes;
   picture = f.picture;
@@ -45,8 +45,8 @@ title_of kind cores many vcpus more = kind ++ (codes " of " ++ (decimal cores ++
     ++ (codes ", " ++ (decimal vcpus ++ (codes " vCPU" ++ more)))))))
 
 -- the title up to the count of vCPUs
-abbrev pub kind_text : Head → List ℕ
-kind_text h = title_of (kind_word h.is_run) h.cores (plural h.cores) h.vcpus (plural h.vcpus)
+abbrev pub kind_title : Head → List ℕ
+kind_title h = title_of (kind_word h.is_run) h.cores (plural h.cores) h.vcpus (plural h.vcpus)
 
 -- how many rounds and stints a run has
 unfoldable pub counts_of : ℕ → List ℕ → ℕ → List ℕ → List ℕ
@@ -60,7 +60,7 @@ counts_text true rounds stints = counts_of rounds (plural rounds) stints (plural
 
 -- the whole title: what is shown, its counts, and whose the lanes are
 abbrev pub title_text : Head → List ℕ
-title_text h = kind_text h ++ (counts_text h.is_run h.rounds h.stints ++ lanes_word h.by_vcpu)
+title_text h = kind_title h ++ (counts_text h.is_run h.rounds h.stints ++ lanes_word h.by_vcpu)
 
 -- which ticks are shown, and how long they last in tenths of a millisecond
 unfoldable pub ticks_text : ℕ → ℕ → ℕ → List ℕ

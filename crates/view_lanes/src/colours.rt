@@ -1,7 +1,7 @@
 ghost use Rattle.std.specs.Prelude.{◌≡◌, ◌<◌, ◌≤◌, ◌||◌, ℕ, Bool, IfOk, length, slice_get};
 ghost use Rattle.tab_core.specs.VcpuSets.{has_vcpu};
 ghost use Rattle.tab_core.specs.declared.TheConstants.{MAX_CORES, MAX_VCPUS};
-ghost use Rattle.view_lanes.specs.Colours.{colours_of, is_home, is_taken, next_colour, runs_on, stands_on};
+ghost use Rattle.view_lanes.specs.Colours.{belongs_to_core, colours_of, is_colour_taken, is_home, next_colour, runs_on};
 ghost use Rattle.view_lanes.specs.Inside.Standing.{AreMet, AreOn, AreWhole, HaveAlso};
 ghost use Rattle.view_lanes.specs.Shown.{has_it};
 
@@ -33,7 +33,7 @@ pub(crate) fn colours_of(
 
 // For each core the vCPUs that are on it.
 fn sets_of(alloc: Global, stretches: &[Stretch], tasks: &[Task]) -> Result<Vec<VcpuSet>, NoMemory>
-    ensures { IfOk result (λ sets. AreOn sets.items (stands_on stretches.now tasks.now)) }
+    ensures { IfOk result (λ sets. AreOn sets.items (belongs_to_core stretches.now tasks.now)) }
 {
     let mut sets = home_sets(alloc, tasks)?;
     put_runners(&mut sets, stretches);
@@ -125,7 +125,7 @@ fn next_colour(sets: &[VcpuSet], vcpus: usize, colours: &[u32], v: VcpuNo) -> u3
 // Whether a lower one of the vCPUs that a vCPU meets has the colour.
 fn is_taken(met: &VcpuSet, colours: &[u32], v: VcpuNo, k: u32) -> bool
     requires { length colours.now ≡ v }
-    ensures { (on : ℕ → ℕ → Bool) → AreMet met.now on v → result ≡ is_taken on colours.now v k }
+    ensures { (on : ℕ → ℕ → Bool) → AreMet met.now on v → result ≡ is_colour_taken on colours.now v k }
 {
     let mut taken = false;
     for u in 0..v.0 {

@@ -1,7 +1,7 @@
 ghost use Rattle.std.specs.Prelude.{◌≡◌, ◌<◌, ◌≤◌, ◌+◌, ◌^◌, ◌==◌, ◌++◌, IfOk, OnOk, [], ◌∷◌, if◌then◌else◌, length, max, min, replicate};
 ghost use Rattle.tab_core.specs.declared.TheConstants.{MAX_VCPUS};
 ghost use Rattle.view_lanes.specs.Inside.Filling.{HaveMore, use_of};
-ghost use Rattle.view_lanes.specs.Shown.{bars_in, held_in, is_dense, key_of, lanes_below, share_in, some_boxes, some_dense};
+ghost use Rattle.view_lanes.specs.Shown.{bars_in, held_in, is_dense, key_of, lanes_below, lanes_share, some_boxes, some_dense};
 
 use crate::amounts::per_mille;
 use crate::frame::{Bar, Frame};
@@ -198,7 +198,7 @@ pub fn held_in(frame: &Frame, bars: &[Bar]) -> u64
 /// percent. There are at most 256 lanes.
 pub fn share_in(frame: &Frame, lanes: &[Lane]) -> u64
     requires { length lanes.now ≤ MAX_VCPUS }
-    ensures { result ≡ share_in frame.now lanes.now }
+    ensures { result ≡ lanes_share frame.now lanes.now }
 {
     let mut total = 0;
     for lane in lanes {

@@ -1,6 +1,6 @@
 ghost use Rattle.std.specs.Prelude.{◌≡◌, ◌<◌, ◌+◌, ◌∷◌, [], ◌^◌, ℕ, None, slice_index_or};
 ghost use Rattle.std.specs.Option.{option_or};
-ghost use Rattle.view_lanes.specs.Rounds.{AreUsed, first_round, rounds_shown, used_in};
+ghost use Rattle.view_lanes.specs.Rounds.{AreUsed, first_round, rounds_shown, used_count_in};
 
 use crate::frame::Frame;
 use tab_core::ROUND;
@@ -39,7 +39,7 @@ pub fn used_counts(stretches: &[Stretch], first: u64) -> [Option<u32>; 24]
 fn put_used(counts: &mut [Option<u32>; 24], first: u64, stretch: &Stretch)
     requires { first < 2 ^ 32 }
     ensures { (k : ℕ) → k < 24 → slice_index_or counts.new k None
-        ≡ option_or (slice_index_or counts.old k None) (used_in (stretch.now ∷ []) (first + k)) }
+        ≡ option_or (slice_index_or counts.old k None) (used_count_in (stretch.now ∷ []) (first + k)) }
 {
     let round = u64::from(stretch.from / ROUND);
     if round < first || round - first >= 24 {

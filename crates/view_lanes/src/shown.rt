@@ -1,6 +1,7 @@
 ghost use Rattle.std.specs.Prelude.{◌≡◌, ◌<◌, ◌≤◌, ◌-◌, ◌^◌, length};
 ghost use Rattle.tab_core.specs.declared.TheConstants.{MAX_CORES, MAX_VCPUS};
-ghost use Rattle.view_lanes.specs.Shown.{cores_in, frame_of, lanes_of, last_end, reach_of, rounds_of, rows_in, shown_in, shows_nothing, whole_of};
+ghost use Rattle.view_doc.specs.Views.{reach_of, shown_in};
+ghost use Rattle.view_lanes.specs.Shown.{cores_in, frame_of, lanes_of, last_end, rounds_of, rows_in, shows_nothing, whole_of};
 
 use crate::frame::{ChartOptions, Frame};
 use tab_core::ROUND;

@@ -1,7 +1,7 @@
 ghost use Rattle.std.specs.Prelude.{◌≡◌, ◌≤◌, length};
 ghost use Rattle.tab_core.specs.declared.TheConstants.{MAX_VCPUS};
 ghost use Rattle.tab_io.specs.Sinks.{Writes};
-ghost use Rattle.view_lanes.specs.Titles.{counts_of, counts_text, head_of, kind_text, kind_word, lanes_note, lanes_word, plural, share_text, sub_end, sub_text, ticks_text, title_of, title_text};
+ghost use Rattle.view_lanes.specs.Titles.{counts_of, counts_text, head_of, kind_title, kind_word, lanes_note, lanes_word, plural, share_text, sub_end, sub_text, ticks_text, title_of, title_text};
 
 use crate::amounts::tenths_ms;
 use crate::frame::Frame;
@@ -76,7 +76,7 @@ pub fn put_title<K: Sink>(sink: &mut K, head: &Head) -> Result<(), WriteFault>
 
 // Writes what it is of.
 fn put_kind<K: Sink>(sink: &mut K, head: &Head) -> Result<(), WriteFault>
-    ensures { Writes (K.state sink.old) (K.state sink.new) (kind_text head.now) result }
+    ensures { Writes (K.state sink.old) (K.state sink.new) (kind_title head.now) result }
 {
     put_title_of(
         sink,

@@ -1,6 +1,6 @@
 -- Lines that lead from one prefix to another, with the segments that they show.
 use Rattle.std.proofs.Common.{◌≡◌, ℕ, List, [], ◌∷◌, ◌++◌, map, Option, Some, None, refl, sym, ap, ◌∙◌, subst, append_assoc}
-use Rattle.view_doc.specs.Grammar.{Front, IsLed, ends_behind, front_behind, front_of, names_behind, place_behind}
+use Rattle.view_doc.specs.Grammar.{Front, IsLed, ends_behind, front_behind, front_of, names_behind, place_after_line}
 use Rattle.view_doc.specs.Lines.{Told}
 use Rattle.view_doc.specs.Views.{slots_from, slots_in}
 use Rattle.view_doc.specs.declared.place.Place.{Place}
@@ -21,7 +21,7 @@ stays front = record { led = refl; shown = refl }
 -- a line before lines that lead somewhere
 pub goes : (front : Front) (told : Told) (tolds : List Told) (place : Place) (names : List (List ℕ))
     (ends : List ℕ) (last : Front) (slots : List Told)
-    → place_behind front.place told ≡ Some place → names_behind front.names told ≡ Some names
+    → place_after_line front.place told ≡ Some place → names_behind front.names told ≡ Some names
     → ends_behind front.ends told ≡ Some ends → Leads (front_at place names ends) tolds last slots
     → Leads front (told ∷ tolds) last (slots_in front.place told ++ slots)
 goes front told tolds place names ends last slots on_place on_names on_ends rest =
@@ -38,7 +38,7 @@ goes front told tolds place names ends last slots on_place on_names on_ends rest
 
 -- one line alone
 pub goes_once : (front : Front) (told : Told) (place : Place) (names : List (List ℕ)) (ends : List ℕ)
-    → place_behind front.place told ≡ Some place → names_behind front.names told ≡ Some names
+    → place_after_line front.place told ≡ Some place → names_behind front.names told ≡ Some names
     → ends_behind front.ends told ≡ Some ends → slots_in front.place told ≡ []
     → Leads front (told ∷ []) (front_at place names ends) []
 goes_once front told place names ends on_place on_names on_ends none =
@@ -77,7 +77,7 @@ goes_on_by front some more middle last slots others first second = record {
         ≡ slots_from (Some f.place) tolds ++ slots_from (Some middle.place) more
     slots_by f [] led = ap (λ (g : Front). slots_from (Some g.place) more) led
     slots_by f (told ∷ tolds) led =
-        let place = on_place (place_behind f.place told) (names_behind f.names told) (ends_behind f.ends told)
+        let place = on_place (place_after_line f.place told) (names_behind f.names told) (ends_behind f.ends told)
         led.0 led.1 in
         ap (λ (p : Option Place). slots_in f.place told ++ slots_from p (tolds ++ more)) place
         ∙ (ap (λ ss. slots_in f.place told ++ ss) (slots_by led.0 tolds led.2)

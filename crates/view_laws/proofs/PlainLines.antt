@@ -11,20 +11,20 @@ use Rattle.vcpu_names.specs.Names as names
 use Rattle.plan_text.proofs.MeaningLemmas.{name_word}
 use Rattle.stint_text.specs.StintLine.{owned_line, stint_line}
 use Rattle.stint_text.specs.StintLine as written
-use Rattle.view_doc.specs.Lines.{Holder, nobody, in_slot, in_unused, IsGood, IsGoodHolder, IsGoodOwner, IsPlain, Told, head, task, core, segment, end, cut, entry, stint, posted, report, item, done, how_word, owner_word, told_words}
+use Rattle.view_doc.specs.Lines.{Holder, nobody, in_slot, in_unused, IsGood, IsGoodHolder, IsGoodOwner, IsPlain, Told, head, task, core, segment, end, cut, entry, stint, posted, report, item, done, how_of_holder, word_of_holder, told_words}
 use Rattle.view_laws.specs.ShownRuns.{ran_holder, stint_told}
 
 -- ---- stints
 
 -- whoever ran has the same words in both
 same_owner : (ns : List (List ℕ)) (shared : Bool) (ran : Option ℕ)
-    → owner_word (ran_holder ns shared ran) ≡ names.owner_word ns ran
+    → word_of_holder (ran_holder ns shared ran) ≡ names.owner_word ns ran
 same_owner ns shared None = refl
 same_owner ns true (Some v) = refl
 same_owner ns false (Some v) = refl
 
 same_how : (ns : List (List ℕ)) (shared : Bool) (ran : Option ℕ)
-    → how_word (ran_holder ns shared ran) ≡ written.how_word shared ran
+    → how_of_holder (ran_holder ns shared ran) ≡ written.how_word shared ran
 same_how ns shared None = refl
 same_how ns true (Some v) = refl
 same_how ns false (Some v) = refl
@@ -37,23 +37,23 @@ stint_written ns course c s =
     let shared = is_shared course c s in
     let front = λ (owner how : List ℕ). line_of (codes "core" ∷ decimal c ∷ decimal s.from ∷ decimal s.end
     ∷ codes "used" ∷ decimal s.used ∷ codes "seen" ∷ decimal s.seen ∷ owner ∷ how ∷ []) in
-    sym (ap (λ (w : List ℕ). front w (how_word (ran_holder ns shared s.ran))) (same_owner ns shared s.ran)
+    sym (ap (λ (w : List ℕ). front w (how_of_holder (ran_holder ns shared s.ran))) (same_owner ns shared s.ran)
     ∙ ap (front (names.owner_word ns s.ran)) (same_how ns shared s.ran))
 
 -- ---- words
 
 -- whoever has ticks has a word
-holder_word : (held : Holder) → IsGoodHolder held → is_word (owner_word held) ≡ true
+holder_word : (held : Holder) → IsGoodHolder held → is_word (word_of_holder held) ≡ true
 holder_word nobody good = refl
 holder_word (in_slot name) good = name_word name good
 holder_word (in_unused name) good = name_word name good
 
-owner_is_word : (held : Holder) → IsGoodOwner held → is_word (owner_word held) ≡ true
+owner_is_word : (held : Holder) → IsGoodOwner held → is_word (word_of_holder held) ≡ true
 owner_is_word nobody good = refl
 owner_is_word (in_slot name) good = name_word name good
 owner_is_word (in_unused name) good = absurd good
 
-how_is_word : (held : Holder) → is_word (how_word held) ≡ true
+how_is_word : (held : Holder) → is_word (how_of_holder held) ≡ true
 how_is_word nobody = refl
 how_is_word (in_slot name) = refl
 how_is_word (in_unused name) = refl

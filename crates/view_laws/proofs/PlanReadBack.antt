@@ -8,7 +8,7 @@ use Rattle.std.proofs.lemmas.Slice.Eq.{bytes_eq-Decides}
 use Rattle.std.specs.List.{All}
 use Rattle.std.specs.Option.{ForSome, option_eq}
 use Rattle.std.specs.Str.{bytes_eq}
-use Rattle.tab_words.specs.Texts.{text_of}
+use Rattle.tab_words.specs.Texts.{text_of, worded}
 use Rattle.tab_words.proofs.TextLemmas.{text_read}
 use Rattle.tab_core.specs.declared.TheConstants.{MAX_CORES, MAX_VCPUS, ROUND}
 use Rattle.tab_core.specs.declared.host.Host.{Host}
@@ -30,13 +30,13 @@ use Rattle.plan_text.specs.Written.{IsHostWithPlan}
 use Rattle.plan_text.proofs.ReadBack.{read_back}
 use Rattle.view_doc.specs.Grammar.{Front, is_known, start}
 use Rattle.view_doc.specs.Lines.{IsGood, IsGoodOwner, IsPlain, Told, core, end, head, told_words}
-use Rattle.view_doc.specs.Texts.{IsFirstBad, IsText, worded}
-use Rattle.view_doc.specs.Views.{IsViewOf, ShowsTold, cores_after, entries_in, stints_in, stretch_told, tasks_in}
+use Rattle.view_doc.specs.Texts.{IsFirstBad, IsText}
+use Rattle.view_doc.specs.Views.{IsViewOf, ShowsTold, cores_after, entries_in, stretch_told, tasks_in, told_stints}
 use Rattle.view_doc.specs.declared.place.Place.TheVariants.{Row as InRow, Tasks}
 use Rattle.view_doc.specs.declared.view.View.{View}
 use Rattle.view_doc.proofs.OneText.{no_bad_line, one_text}
 use Rattle.view_doc.proofs.NameLemmas.{known_behind}
-use Rattle.view_laws.specs.ShownPlans.{IsShownAs, ShowsPlan, admitted_names, admitted_tasks, cores_told, owner_holder, plan_front, plan_told, rows_of, segment_told, slots_of, tasks_told}
+use Rattle.view_laws.specs.ShownPlans.{IsShownAs, ShowsPlan, admitted_names, admitted_tasks, cores_told, owner_holder, plan_front, plan_told, segment_rows, segment_told, slots_of, tasks_told}
 use Rattle.view_laws.proofs.Leading.{Leads, front_at, goes, goes_on_by, none_mapped}
 use Rattle.view_laws.proofs.PlanLed.{HasKnownOwner, IsGoodRow, rows_led, tasks_led}
 use Rattle.view_laws.proofs.PlanTicks.{tick_each, tick_some}
@@ -115,9 +115,9 @@ filled known names (row ∷ rows) rounds good =
 plan_led : (names : List (List ℕ)) (plan : PlanView) → length names ≡ length plan.tasks
     → length names ≤ MAX_VCPUS → AreHostNames names → 1 ≤ length plan.rows
     → are_housed (length plan.rows) plan.tasks plan.homes ≡ true
-    → All (IsGoodRow (admitted_names names plan.tasks) names) (rows_of plan)
-    → Leads start (plan_told names plan) (plan_front names plan) (slots_of names 0 (rows_of plan))
-plan_led names plan many few good some housed rows = by_rows (rows_of plan)
+    → All (IsGoodRow (admitted_names names plan.tasks) names) (segment_rows plan)
+    → Leads start (plan_told names plan) (plan_front names plan) (slots_of names 0 (segment_rows plan))
+plan_led names plan many few good some housed rows = by_rows (segment_rows plan)
     (length-map plan.rows (λ row. segments_from 0 row)) rows
   where
     known : List (List ℕ)
@@ -158,7 +158,7 @@ record AreGood (host : Host) (plan : PlanView) : Type 0 where
   many : length (names_of host.vcpus) ≡ length plan.tasks
   rows : All (λ row. All (IsGoodSegment (admitted_names (names_of host.vcpus) plan.tasks)
       (names_of host.vcpus)) row)
-      (rows_of plan)
+      (segment_rows plan)
 
 all_good : (host : Host) (plan : PlanView) → IsHostWithPlan host plan → AreGood host plan
 all_good host plan all =
@@ -175,7 +175,7 @@ all_good host plan all =
 -- the lines lead to the end of the plan, and show its rows
 plan_leads : (host : Host) (plan : PlanView) → IsHostWithPlan host plan
     → Leads start (plan_told (names_of host.vcpus) plan) (plan_front (names_of host.vcpus) plan)
-    (slots_of (names_of host.vcpus) 0 (rows_of plan))
+    (slots_of (names_of host.vcpus) 0 (segment_rows plan))
 plan_leads host plan all =
     let names = names_of host.vcpus in
     let good = all_good host plan all in
@@ -193,15 +193,15 @@ unfolding plan_text
 plan_written names plan =
     let count = count_by is_admitted plan.tasks in
     let tasks = vcpu_lines names plan.tasks plan.homes in
-    let cores = core_lines (view_words names) 0 (rows_of plan) in
+    let cores = core_lines (view_words names) 0 (segment_rows plan) in
     let told = tasks_told names plan.tasks plan.homes in
-    let of_cores = cores_told names 0 (rows_of plan) in
+    let of_cores = cores_told names 0 (segment_rows plan) in
     let many = length-map plan.rows (λ row. segments_from 0 row) in
     ap text_of (ap (λ n. head_words n count ∷ (tasks ++ (cores ++ end_words ∷ []))) many
     ∙ (ap (λ ls. head_words (length plan.rows) count ∷ (ls ++ (cores ++ end_words ∷ [])))
     (tasks_written names plan.tasks plan.homes)
     ∙ (ap (λ ls. head_words (length plan.rows) count ∷ (map told_words told ++ (ls ++ end_words ∷ [])))
-    (cores_written names 0 (rows_of plan))
+    (cores_written names 0 (segment_rows plan))
     ∙ ap (λ ls. head_words (length plan.rows) count ∷ ls)
     (ap (λ ls. map told_words told ++ ls) (sym (map-append told_words of_cores (end ∷ [])))
     ∙ sym (map-append told_words told (of_cores ++ end ∷ []))))))
@@ -211,9 +211,9 @@ plan_plain : (names : List (List ℕ)) (plan : PlanView) → All IsPlain (plan_t
 plan_plain names plan =
     All-cons IsPlain (head (length plan.rows) (count_by is_admitted plan.tasks)) _ tt
     (All-append IsPlain (tasks_told names plan.tasks plan.homes)
-    (cores_told names 0 (rows_of plan) ++ end ∷ [])
+    (cores_told names 0 (segment_rows plan) ++ end ∷ [])
     (tasks_plain names plan.tasks plan.homes)
-    (All-append IsPlain (cores_told names 0 (rows_of plan)) (end ∷ []) (cores_plain names 0 (rows_of plan))
+    (All-append IsPlain (cores_told names 0 (segment_rows plan)) (end ∷ []) (cores_plain names 0 (segment_rows plan))
     (All-cons IsPlain end [] tt (All-nil IsPlain))))
 
 -- the plan's lines are good
@@ -226,17 +226,17 @@ plan_fine host plan all =
     let few = host.few_cores in
     let cores : length plan.rows ≡ host.cores = all.is_for.rows in
     let few_tasks : length plan.tasks ≤ MAX_VCPUS = let least = all.few in let vcpus = all.is_for.vcpus in omega arith in
-    let same : length (rows_of plan) ≡ length plan.rows = length-map plan.rows (λ row. segments_from 0 row) in
+    let same : length (segment_rows plan) ≡ length plan.rows = length-map plan.rows (λ row. segments_from 0 row) in
     let admitted = count_by-le-length is_admitted plan.tasks in
-    let of_rows : All IsGood (cores_told names 0 (rows_of plan)) =
-    cores_fine names 0 (rows_of plan) (omega arith) (λ k d low j e less. (good.rows k d low j e less).good) in
+    let of_rows : All IsGood (cores_told names 0 (segment_rows plan)) =
+    cores_fine names 0 (segment_rows plan) (omega arith) (λ k d low j e less. (good.rows k d low j e less).good) in
     let of_tasks : All IsGood (tasks_told names plan.tasks plan.homes) =
     tasks_fine host.cores names plan.tasks plan.homes few all.names.good
     (subst (λ n. are_housed n plan.tasks plan.homes ≡ true) cores all.keeps.housed) in
     All-cons IsGood (head (length plan.rows) (count_by is_admitted plan.tasks)) _
     (omega arith, omega arith, omega arith)
-    (All-append IsGood (tasks_told names plan.tasks plan.homes) (cores_told names 0 (rows_of plan) ++ end ∷ [])
-    of_tasks (All-append IsGood (cores_told names 0 (rows_of plan)) (end ∷ []) of_rows
+    (All-append IsGood (tasks_told names plan.tasks plan.homes) (cores_told names 0 (segment_rows plan) ++ end ∷ [])
+    of_tasks (All-append IsGood (cores_told names 0 (segment_rows plan)) (end ∷ []) of_rows
     (All-cons IsGood end [] tt (All-nil IsGood))))
 
 -- the law's first clause: the text tells the plan
@@ -267,13 +267,13 @@ tasks_alone : {X : Type 0} (f : Told → List X) (names : List (List ℕ)) (plan
     → flat_map f (plan_told names plan) ≡ xs
 tasks_alone f names plan xs no_head no_core no_segment no_end are =
     let told = tasks_told names plan.tasks plan.homes in
-    let cores = cores_told names 0 (rows_of plan) in
+    let cores = cores_told names 0 (segment_rows plan) in
     ap (λ ys. ys ++ flat_map f (told ++ (cores ++ end ∷ [])))
     (no_head (length plan.rows) (count_by is_admitted plan.tasks))
     ∙ (flat_map-append f told (cores ++ end ∷ [])
     ∙ (ap (λ ys. flat_map f told ++ ys) (flat_map-append f cores (end ∷ []))
     ∙ (ap (λ ys. flat_map f told ++ (ys ++ flat_map f (end ∷ [])))
-    (nothing_of_cores f names 0 (rows_of plan) no_core no_segment)
+    (nothing_of_cores f names 0 (segment_rows plan) no_core no_segment)
     ∙ (ap (λ ys. flat_map f told ++ (ys ++ [])) no_end
     ∙ (append-nil (flat_map f told) ∙ are)))))
 
@@ -282,8 +282,8 @@ cores_shown : (names : List (List ℕ)) (plan : PlanView)
     → cores_after 0 (plan_told names plan) ≡ length plan.rows
 cores_shown names plan =
     cores_past_tasks (length plan.rows) names plan.tasks plan.homes
-    (cores_told names 0 (rows_of plan) ++ end ∷ [])
-    ∙ cores_past_rows (length plan.rows) names 0 (rows_of plan) (end ∷ [])
+    (cores_told names 0 (segment_rows plan) ++ end ∷ [])
+    ∙ cores_past_rows (length plan.rows) names 0 (segment_rows plan) (end ∷ [])
 
 -- the second: a view of the text shows the plan
 pub plan_shown : (host : Host) (plan : PlanView) (view : View) → IsHostWithPlan host plan
@@ -311,8 +311,8 @@ plan_shown host plan view all is =
           refl
           (nothing_of_tasks entries_in names plan.tasks plan.homes (λ name t n h. refl));
       no_stint = none_mapped (stretch_told (admitted_names names plan.tasks)) view.stints.items
-          (shows.stints ∙ tasks_alone stints_in names plan [] (λ m k. refl) (λ c. refl) (λ s. refl) refl
-          (nothing_of_tasks stints_in names plan.tasks plan.homes (λ name t n h. refl)));
+          (shows.stints ∙ tasks_alone told_stints names plan [] (λ m k. refl) (λ c. refl) (λ s. refl) refl
+          (nothing_of_tasks told_stints names plan.tasks plan.homes (λ name t n h. refl)));
     }
 
 -- the third: each tick of a core is shown as the owner's
@@ -394,8 +394,8 @@ plan_short host plan all =
     let tasks = few_tasks names plan.tasks plan.homes in
     let lines = few_lines names 0 plan.rows all.rounds in
     let sum = length-append (tasks_told names plan.tasks plan.homes)
-    (cores_told names 0 (rows_of plan) ++ end ∷ []) in
-    let last = length-append (cores_told names 0 (rows_of plan)) (end ∷ []) in
+    (cores_told names 0 (segment_rows plan) ++ end ∷ []) in
+    let last = length-append (cores_told names 0 (segment_rows plan)) (end ∷ []) in
     let size = text_size (plan_told names plan) (plan_plain names plan) (plan_fine host plan all) in
     let same = ap length (plan_written names plan) in
     omega arith

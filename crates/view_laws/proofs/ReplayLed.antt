@@ -12,7 +12,7 @@ use Rattle.table_form.specs.Running.Courses.{CourseView, IsCourse, plan_after}
 use Rattle.table_form.specs.Running.Entering.{Decides}
 use Rattle.table_form.specs.Running.Invariant.{StateInvariant}
 use Rattle.table_form.specs.Running.State.{CoreState, State, opening_core}
-use Rattle.table_form.specs.Running.Stints.{Runs, runs}
+use Rattle.table_form.specs.Running.Stints.{RunsNextStint, runs}
 use Rattle.vcpu_names.specs.Names.{AreNames}
 use Rattle.script_doc.specs.declared.step.Step.{Step}
 use Rattle.script_doc.specs.declared.step.Step.TheVariants as steps
@@ -138,7 +138,7 @@ entered_goes names course rounds mid c e made place known ends host later at las
 ran_goes : (names : List (List ℕ)) (course : CourseView) (rounds : ℕ) (old mid : State) (c : ℕ) (s : Stint)
     (made : List Made) (place : Place) (known : List (List ℕ)) (ends : List ℕ) → IsRunHost names course rounds
     → StateInvariant course rounds mid → slice_get mid.cores c ≡ Some (core_at mid c)
-    → Runs course rounds c old mid → EndsWith (core_at mid c).stints s → IsOpen place → HasRoomFor names known
+    → RunsNextStint course rounds c old mid → EndsWith (core_at mid c).stints s → IsOpen place → HasRoomFor names known
     → AreClocks ends old.cores
     → ((next : List (List ℕ)) (after : List ℕ) → HasRoomFor names next → AreClocks after mid.cores
     → GoesBy names course (front_at Running next after) made)

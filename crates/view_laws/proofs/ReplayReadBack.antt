@@ -9,7 +9,7 @@ use Rattle.tab_core.proofs.Lists.{get_or-replicate_same}
 use Rattle.tab_core.specs.declared.TheConstants.{MAX_CORES, MAX_VCPUS}
 use Rattle.tab_core.specs.declared.entry.Entry.{Entry}
 use Rattle.tab_core.specs.declared.host.Host.{Host}
-use Rattle.tab_words.specs.Texts.{line_of, text_of}
+use Rattle.tab_words.specs.Texts.{line_of, text_of, worded}
 use Rattle.tab_words.proofs.TextLemmas.{text_read}
 use Rattle.table_form.specs.Running.Courses.{CourseView, plan_after}
 use Rattle.table_form.specs.Running.State.{CoreState, State, opening, opening_core}
@@ -19,10 +19,10 @@ use Rattle.step_machine.specs.declared.trace.Made.{Made}
 use Rattle.step_machine.specs.declared.trace.Made.TheVariants.{Entered, Ran}
 use Rattle.step_machine.proofs.RunLemmas.{leads_keep, opening_kept}
 use Rattle.step_machine.proofs.TraceLemmas.{leads_of}
-use Rattle.view_doc.specs.Grammar.{Front, place_behind, start}
+use Rattle.view_doc.specs.Grammar.{Front, place_after_line, start}
 use Rattle.view_doc.specs.Lines.{IsGood, IsPlain, entry, posted, told_words}
-use Rattle.view_doc.specs.Texts.{IsFirstBad, IsText, worded}
-use Rattle.view_doc.specs.Views.{IsViewOf, ShowsTold, cores_after, entries_in, is_run, slots_from, stints_in, stretch_told, tasks_in}
+use Rattle.view_doc.specs.Texts.{IsFirstBad, IsText}
+use Rattle.view_doc.specs.Views.{IsViewOf, ShowsTold, cores_after, entries_in, is_run, slots_from, stretch_told, tasks_in, told_stints}
 use Rattle.view_doc.specs.declared.place.Place.{Place}
 use Rattle.view_doc.specs.declared.place.Place.TheVariants.{Closed, Planned, Reporting, Row, Running, Start, Tasks}
 use Rattle.view_doc.specs.declared.view.View.{View}
@@ -85,7 +85,7 @@ made_lines names course (Ran c s ∷ made) =
 -- ---- where the lines lead
 
 -- the last line closes the text
-posted_place : (place : Place) (count : ℕ) → IsOpen place → place_behind place (posted count) ≡ Some Closed
+posted_place : (place : Place) (count : ℕ) → IsOpen place → place_after_line place (posted count) ≡ Some Closed
 posted_place Start count at = refl
 posted_place Running count at = refl
 posted_place (Tasks m k) count at = absurd at
@@ -196,7 +196,7 @@ entries_are names course (Ran c s ∷ made) count = entries_are names course mad
 
 -- what was made shows the stints
 stints_are : (names : List (List ℕ)) (course : CourseView) (made : List Made) (count : ℕ)
-    → flat_map stints_in (replay_told names course made count) ≡ stints_made names course made
+    → flat_map told_stints (replay_told names course made count) ≡ stints_made names course made
 stints_are names course [] count = refl
 stints_are names course (Entered c e ∷ made) count = stints_are names course made count
 stints_are names course (Ran c s ∷ made) count =

@@ -7,20 +7,20 @@ use Rattle.std.proofs.lemmas.List.Folds.{list_all-append}
 use Rattle.std.specs.List.{All, list_all}
 use Rattle.tab_core.specs.Name.{IsName}
 use Rattle.tab_core.specs.declared.host.Host.{Host}
-use Rattle.tab_words.specs.Texts.{line_of, text_of, texts_below}
+use Rattle.tab_words.specs.Texts.{Line, line_of, text_of, texts_below}
 use Rattle.tab_words.proofs.TextLemmas.{decimal_word, is_line, is_plain, is_word}
 use Rattle.vcpu_names.specs.Names.{AreNames, name_at, names_of}
 use Rattle.plan_text.proofs.MeaningLemmas.{name_word}
-use Rattle.report_counts.specs.declared.round_plan.RoundPlan.{RoundPlan}
+use Rattle.run_counts.specs.declared.round_plan.RoundPlan.{RoundPlan}
 use Rattle.plan_book.specs.Books.{NamesVcpuBelow}
 use Rattle.plan_book.specs.declared.outcome.Outcome.{Outcome}
 use Rattle.plan_book.specs.declared.outcome.Outcome.TheVariants.{NoPeriod, NoRoom, Planned}
 use Rattle.trace_report.specs.ReportText.{change_at, change_line, core_line, done_line, line_of_change, report_text, round_line, run_line, vcpu_line}
-use Rattle.trace_report.specs.ReportViews.{ReportView, core_at, no_core_ticks, no_vcpu_ticks, vcpu_at}
+use Rattle.trace_report.specs.ReportViews.{ReportView, core_ticks_at, no_core_ticks, no_vcpu_ticks, vcpu_at}
 use Rattle.trace_report.specs.declared.ticks.CoreTicks.{CoreTicks}
 use Rattle.trace_report.specs.declared.ticks.VcpuTicks.{VcpuTicks}
-use Rattle.view_doc.specs.Items.{Fits, IsItem, IsNumber, Line, report_form}
-use Rattle.view_laws.specs.ShownTraces.{AreCoreNumbers, AreRoundNumbers, AreVcpuNumbers, HasNumbers, IsChangeOf}
+use Rattle.view_doc.specs.Items.{FitsForm, IsItem, IsNumber, report_form}
+use Rattle.view_laws.specs.ShownTraces.{AreCoreNumbers, AreRoundNumbers, AreVcpuNumbers, HasReportNumbers, IsChangeOf}
 
 -- ---- items
 
@@ -200,7 +200,7 @@ run_words rounds cores events =
     ∷ decimal events ∷ codes "events" ∷ []
 
 pub run_fits : (rounds cores events : ℕ) → rounds < 2 ^ 64 → cores < 2 ^ 64 → events < 2 ^ 64
-    → Fits (run_words rounds cores events) report_form × (is_line (run_words rounds cores events) ≡ true)
+    → FitsForm (run_words rounds cores events) report_form × (is_line (run_words rounds cores events) ≡ true)
 unfolding run_words
 run_fits rounds cores events a b c = (
   (refl, (number rounds a, (refl, (number cores b, (refl, (number events c, (refl, tt))))))),
@@ -222,7 +222,7 @@ item_lines names vcpus cores changes told =
     lines_below (changes_words names changes) (length changes)
     ++ (plans_words told.plans
     ++ (lines_below (λ v. vcpu_words (name_at names v) (vcpu_at told.vcpus v)) vcpus
-    ++ lines_below (λ c. core_words c (core_at told.cores c)) cores))
+    ++ lines_below (λ c. core_words c (core_ticks_at told.cores c)) cores))
 
 plans_written : (plans : List RoundPlan) → flat_map round_line plans ≡ text_of (plans_words plans)
 unfolding plans_words round_line round_words
@@ -262,11 +262,11 @@ report_written host changes events rounds told =
     let first = lines_below (changes_words names changes) (length changes) in
     let second = plans_words told.plans in
     let third = lines_below (λ v. vcpu_words (name_at names v) (vcpu_at told.vcpus v)) (length host.vcpus) in
-    let fourth = lines_below (λ c. core_words c (core_at told.cores c)) host.cores in
+    let fourth = lines_below (λ c. core_words c (core_ticks_at told.cores c)) host.cores in
     let of_change = λ (k : ℕ). change_written names k (slice_index_or changes k (0, Planned)).0
     (slice_index_or changes k (0, Planned)).1 in
     let vcpus = texts_below (λ v. vcpu_line (name_at names v) (vcpu_at told.vcpus v)) (length host.vcpus) in
-    let cores = texts_below (λ c. core_line c (core_at told.cores c)) host.cores in
+    let cores = texts_below (λ c. core_line c (core_ticks_at told.cores c)) host.cores in
     ap (λ l. run ++ (l ++ (flat_map round_line told.plans ++ (vcpus ++ (cores ++ done_line)))))
     (below_written (change_at names changes) (changes_words names changes) (length changes) of_change)
     ∙ (ap (λ l. run ++ (text_of first ++ (l ++ (vcpus ++ (cores ++ done_line))))) (plans_written told.plans)
@@ -274,7 +274,7 @@ report_written host changes events rounds told =
     (below_written (λ v. vcpu_line (name_at names v) (vcpu_at told.vcpus v))
     (λ v. vcpu_words (name_at names v) (vcpu_at told.vcpus v)) (length host.vcpus) (λ k. refl))
     ∙ (ap (λ l. run ++ (text_of first ++ (text_of second ++ (text_of third ++ (l ++ done_line)))))
-    (below_written (λ c. core_line c (core_at told.cores c)) (λ c. core_words c (core_at told.cores c))
+    (below_written (λ c. core_line c (core_ticks_at told.cores c)) (λ c. core_words c (core_ticks_at told.cores c))
     host.cores
     (λ k. refl))
     ∙ ap (λ l. run ++ l) (sym (in_parts first second third fourth (codes "done" ∷ []))))))
@@ -282,7 +282,7 @@ report_written host changes events rounds told =
 -- its lines between the first and the last are good
 pub items_good : (names : List (List ℕ)) (vcpus cores : ℕ) (changes : List (ℕ × Outcome)) (told : ReportView)
     → AreNames names → length names ≡ vcpus → cores < 2 ^ 64 → length changes < 2 ^ 64
-    → All (IsChangeOf vcpus) changes → HasNumbers told → length told.vcpus ≡ vcpus → length told.cores ≡ cores
+    → All (IsChangeOf vcpus) changes → HasReportNumbers told → length told.vcpus ≡ vcpus → length told.cores ≡ cores
     → All IsGoodItem (item_lines names vcpus cores changes told)
 unfolding item_lines changes_words
 items_good names vcpus cores changes told good many few small changed low each_vcpu each_core =
@@ -297,5 +297,5 @@ items_good names vcpus cores changes told good many few small changed low each_v
     (below_good (λ v. vcpu_words (name_at names v) (vcpu_at told.vcpus v)) vcpus
     (λ v less. vcpu_good (name_at names v) (vcpu_at told.vcpus v) (good v (omega arith))
     (low.vcpus v no_vcpu_ticks (omega arith))))
-    (below_good (λ c. core_words c (core_at told.cores c)) cores
-    (λ c less. core_good c (core_at told.cores c) (omega arith) (low.cores c no_core_ticks (omega arith))))))
+    (below_good (λ c. core_words c (core_ticks_at told.cores c)) cores
+    (λ c less. core_good c (core_ticks_at told.cores c) (omega arith) (low.cores c no_core_ticks (omega arith))))))

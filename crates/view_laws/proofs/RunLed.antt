@@ -7,7 +7,7 @@ use Rattle.tab_core.specs.declared.stint.Stint.{Stint}
 use Rattle.table_form.specs.Running.Choice.{is_shared}
 use Rattle.table_form.specs.Running.Courses.{CourseView}
 use Rattle.vcpu_names.specs.Names.{AreNames}
-use Rattle.view_doc.specs.Grammar.{Front, ends_behind, place_behind}
+use Rattle.view_doc.specs.Grammar.{Front, ends_behind, place_after_line}
 use Rattle.view_doc.specs.Lines.{IsGood, IsGoodHolder, Told, entry}
 use Rattle.view_doc.specs.Views.{slots_in}
 use Rattle.view_doc.specs.declared.place.Place.{Place}
@@ -25,7 +25,7 @@ IsOpen Running = Unit {0}
 IsOpen _ = ⊥
 
 -- an entry leads on
-entry_place : (place : Place) (c r n : ℕ) → IsOpen place → place_behind place (entry c r n) ≡ Some Running
+entry_place : (place : Place) (c r n : ℕ) → IsOpen place → place_after_line place (entry c r n) ≡ Some Running
 entry_place Start c r n at = refl
 entry_place Running c r n at = refl
 entry_place (Tasks m k) c r n at = absurd at
@@ -36,7 +36,7 @@ entry_place Closed c r n at = absurd at
 
 -- a stint of some ticks leads on
 stint_place : (place : Place) (names : List (List ℕ)) (course : CourseView) (c : ℕ) (s : Stint) → IsOpen place
-    → s.from < s.end → place_behind place (stint_told names course c s) ≡ Some Running
+    → s.from < s.end → place_after_line place (stint_told names course c s) ≡ Some Running
 stint_place Start names course c s at some = rw (lt-ltb s.from s.end some) refl
 stint_place Running names course c s at some = rw (lt-ltb s.from s.end some) refl
 stint_place (Tasks m k) names course c s at some = absurd at

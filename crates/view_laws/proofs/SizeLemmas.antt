@@ -7,7 +7,7 @@ use Rattle.std.specs.List.{All, AllByRecursion, join_with_byte, list_all}
 use Rattle.tab_core.specs.Name.{IsName, is_byte_of_name, is_lone_dash}
 use Rattle.tab_core.specs.declared.TheConstants.{MAX_NAME}
 use Rattle.tab_words.specs.Texts.{line_of, text_of}
-use Rattle.view_doc.specs.Lines.{Holder, nobody, in_slot, in_unused, IsGood, IsGoodHolder, IsGoodOwner, IsPlain, Told, head, task, core, segment, end, cut, entry, stint, posted, report, item, done, how_word, owner_word, told_words}
+use Rattle.view_doc.specs.Lines.{Holder, nobody, in_slot, in_unused, IsGood, IsGoodHolder, IsGoodOwner, IsPlain, Told, head, task, core, segment, end, cut, entry, stint, posted, report, item, done, how_of_holder, word_of_holder, told_words}
 
 -- ---- words
 
@@ -47,17 +47,17 @@ name_size name good =
     let long = and_parts (nat_le 1 (length name)) (nat_le (length name) MAX_NAME) sized.0 in
     leb-true (length name) MAX_NAME long.1
 
-holder_size : (held : Holder) → IsGoodHolder held → IsShort (owner_word held)
+holder_size : (held : Holder) → IsGoodHolder held → IsShort (word_of_holder held)
 holder_size nobody good = omega arith
 holder_size (in_slot name) good = name_size name good
 holder_size (in_unused name) good = name_size name good
 
-owner_size : (held : Holder) → IsGoodOwner held → IsShort (owner_word held)
+owner_size : (held : Holder) → IsGoodOwner held → IsShort (word_of_holder held)
 owner_size nobody good = omega arith
 owner_size (in_slot name) good = name_size name good
 owner_size (in_unused name) good = absurd good
 
-how_size : (held : Holder) → IsShort (how_word held)
+how_size : (held : Holder) → IsShort (how_of_holder held)
 how_size nobody = omega arith
 how_size (in_slot name) = omega arith
 how_size (in_unused name) = omega arith

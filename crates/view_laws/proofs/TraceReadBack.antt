@@ -10,7 +10,7 @@ use Rattle.tab_core.specs.Timelines.{AreContiguous}
 use Rattle.tab_core.specs.declared.TheConstants.{MAX_VCPUS, ROUND}
 use Rattle.tab_core.specs.declared.host.Host.{Host}
 use Rattle.tab_core.specs.declared.stint.Stint.{Stint}
-use Rattle.tab_words.specs.Texts.{line_of, text_of, texts_below}
+use Rattle.tab_words.specs.Texts.{Line, line_of, text_of, texts_below, worded}
 use Rattle.tab_words.specs.declared.command.RunMode.TheVariants.{Trace}
 use Rattle.tab_words.proofs.TextLemmas.{is_line, text_read}
 use Rattle.table_form.specs.Running.Courses.{CourseView, plan_after}
@@ -21,13 +21,12 @@ use Rattle.trace_report.specs.ReportViews.{ReportView}
 use Rattle.trace_report.specs.ReportText.{report_text}
 use Rattle.trace_report.specs.RunReports.{core_ticks}
 use Rattle.trace_report.specs.TraceText.{trace_text}
-use Rattle.course_run.specs.RunText.{run_text}
-use Rattle.course_run.specs.Runs.{stints_at, stints_of}
+use Rattle.run_course.specs.RunText.{run_text}
+use Rattle.run_course.specs.Runs.{stints_at, stints_of}
 use Rattle.view_doc.specs.Grammar.{Front, start}
-use Rattle.view_doc.specs.Items.{Line}
 use Rattle.view_doc.specs.Lines.{IsGood, Told, report, item, done, told_words}
-use Rattle.view_doc.specs.Texts.{IsFirstBad, IsText, worded}
-use Rattle.view_doc.specs.Views.{IsViewOf, ShowsTold, cores_after, cores_behind, entries_in, is_run, slots_from, stints_in, stretch_told, tasks_in}
+use Rattle.view_doc.specs.Texts.{IsFirstBad, IsText}
+use Rattle.view_doc.specs.Views.{IsViewOf, ShowsTold, cores_after, cores_behind, entries_in, is_run, slots_from, stretch_told, tasks_in, told_stints}
 use Rattle.view_doc.specs.declared.place.Place.{Place}
 use Rattle.view_doc.specs.declared.place.Place.TheVariants.{Closed, Reporting, Running, Start}
 use Rattle.view_doc.specs.declared.view.View.{View}
@@ -314,7 +313,7 @@ no_entry_in (item words) is = refl
 no_entry_in done is = refl
 no_entry_in told is = absurd is
 
-no_stint_in : (told : Told) → IsOfReport told → stints_in told ≡ []
+no_stint_in : (told : Told) → IsOfReport told → told_stints told ≡ []
 no_stint_in (report words) is = refl
 no_stint_in (item words) is = refl
 no_stint_in done is = refl
@@ -350,16 +349,16 @@ stints_count names course stints (suc n) m rest =
 
 -- the stints are those
 stints_are : (names : List (List ℕ)) (course : CourseView) (stints : ℕ → List Stint) (n : ℕ)
-    → flat_map stints_in (stints_below names course stints n) ≡ stints_below names course stints n
+    → flat_map told_stints (stints_below names course stints n) ≡ stints_below names course stints n
 stints_are names course stints zero = refl
 stints_are names course stints (suc n) =
     let own = map (stint_told names course n) (stints n) in
-    flat_map-append stints_in (stints_below names course stints n) own
-    ∙ (ap (λ ts. ts ++ flat_map stints_in own) (stints_are names course stints n)
+    flat_map-append told_stints (stints_below names course stints n) own
+    ∙ (ap (λ ts. ts ++ flat_map told_stints own) (stints_are names course stints n)
     ∙ ap (λ ts. stints_below names course stints n ++ ts) (of_core (stints n)))
   where
     of_core : (ss : List Stint)
-        → flat_map stints_in (map (stint_told names course n) ss) ≡ map (stint_told names course n) ss
+        → flat_map told_stints (map (stint_told names course n) ss) ≡ map (stint_told names course n) ss
     of_core [] = refl
     of_core (s ∷ ss) = ap (λ ts. stint_told names course n s ∷ ts) (of_core ss)
 
@@ -395,10 +394,10 @@ trace_shown host changes course rounds state told view of is =
           (nothing_of_stints entries_in names course stints course.cores (λ c s. refl))
           ∙ nothing_of_report entries_in read.behind no_entry_in read.of_report));
       shown = ap (λ ns. map (stretch_told ns) view.stints.items) shows.names
-          ∙ (shows.stints ∙ (flat_map-append stints_in own read.behind
-          ∙ (ap (λ ts. flat_map stints_in own ++ ts)
-          (nothing_of_report stints_in read.behind no_stint_in read.of_report)
-          ∙ (append-nil (flat_map stints_in own) ∙ stints_are names course stints course.cores))));
+          ∙ (shows.stints ∙ (flat_map-append told_stints own read.behind
+          ∙ (ap (λ ts. flat_map told_stints own ++ ts)
+          (nothing_of_report told_stints read.behind no_stint_in read.of_report)
+          ∙ (append-nil (flat_map told_stints own) ∙ stints_are names course stints course.cores))));
     }
 
 -- the trace's text has no bad line

@@ -53,8 +53,8 @@ slots_of names c [] = []
 slots_of names c (row ∷ rows) = core_slots names c 0 row ++ slots_of names (c + 1) rows
 
 -- the maximal segments of the plan's rows
-abbrev pub rows_of : PlanView → List (List SegmentView)
-rows_of plan = map (λ row. segments_from 0 row) plan.rows
+abbrev pub segment_rows : PlanView → List (List SegmentView)
+segment_rows plan = map (λ row. segments_from 0 row) plan.rows
 
 -- the view shows the plan for the host, and nothing else
 pub record ShowsPlan (host : Host) (plan : PlanView) (view : View) : Type 0 where
@@ -63,7 +63,7 @@ pub record ShowsPlan (host : Host) (plan : PlanView) (view : View) : Type 0 wher
   pub names : view.names.items ≡ admitted_names (names_of host.vcpus) plan.tasks
   pub tasks : view.tasks.items ≡ admitted_tasks plan.tasks plan.homes
   pub slots : map (stretch_told view.names.items) view.slots.items
-      ≡ slots_of (names_of host.vcpus) 0 (rows_of plan)
+      ≡ slots_of (names_of host.vcpus) 0 (segment_rows plan)
   pub no_entry : view.entries.items ≡ []
   pub no_stint : view.stints.items ≡ []
 
@@ -114,7 +114,7 @@ cores_told names c (row ∷ rows) = (core c ∷ map (segment_told names) row) ++
 abbrev pub plan_told : List (List ℕ) → PlanView → List Told
 plan_told names plan =
     head (length plan.rows) (count_by is_admitted plan.tasks)
-    ∷ (tasks_told names plan.tasks plan.homes ++ (cores_told names 0 (rows_of plan) ++ end ∷ []))
+    ∷ (tasks_told names plan.tasks plan.homes ++ (cores_told names 0 (segment_rows plan) ++ end ∷ []))
 
 -- what the lines of a plan leave: a whole plan, the names of its vCPUs that have a task, and no stint
 abbrev pub plan_front : List (List ℕ) → PlanView → Front

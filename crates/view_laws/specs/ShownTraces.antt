@@ -7,13 +7,13 @@ use Rattle.table_form.specs.Running.Courses.{CourseView}
 use Rattle.table_form.specs.Running.Complete.{IsComplete}
 use Rattle.table_form.specs.Promises.Run.{KeepsPromises}
 use Rattle.table_form.specs.Running.State.{State}
-use Rattle.report_counts.specs.declared.round_plan.RoundPlan.{RoundPlan}
+use Rattle.run_counts.specs.declared.round_plan.RoundPlan.{RoundPlan}
 use Rattle.plan_book.specs.Books.{NamesVcpuBelow}
 use Rattle.plan_book.specs.declared.outcome.Outcome.{Outcome}
 use Rattle.trace_report.specs.ReportViews.{ReportView}
 use Rattle.trace_report.specs.declared.ticks.CoreTicks.{CoreTicks}
 use Rattle.trace_report.specs.declared.ticks.VcpuTicks.{VcpuTicks}
-use Rattle.course_run.specs.Runs.{IsReportOfState}
+use Rattle.run_course.specs.Runs.{IsReportOfState}
 use Rattle.view_doc.specs.Grammar.{Front}
 use Rattle.view_doc.specs.Lines.{Told, report as report_line, item, done}
 use Rattle.view_doc.specs.Texts.{IsText}
@@ -47,7 +47,7 @@ pub record AreCoreNumbers (t : CoreTicks) : Type 0 where
   pub idle : t.idle < 2 ^ 64
 
 -- all numbers of a report are within their types
-pub record HasNumbers (told : ReportView) : Type 0 where
+pub record HasReportNumbers (told : ReportView) : Type 0 where
   pub plans : All AreRoundNumbers told.plans
   pub vcpus : All AreVcpuNumbers told.vcpus
   pub cores : All AreCoreNumbers told.cores
@@ -64,7 +64,7 @@ pub record IsWholeRun (host : Host) (changes : List (ℕ × Outcome)) (course : 
   pub report : IsReportOfState course state told
   pub changes_of : All (IsChangeOf (length host.vcpus)) changes
   pub few_changes : length changes ≤ MAX_EVENTS
-  pub numbers : HasNumbers told
+  pub numbers : HasReportNumbers told
 
 -- ---- what is shown
 

@@ -1,7 +1,7 @@
 -- What one more vCPU adds to the figures of a VM.
 use Rattle.std.proofs.Common.{◌≡◌, ℕ, ◌+◌, ◌∙◌, ap, sym, max, ◌==◌, ◌&&◌, ◌||◌, nat_lt, Bool, cond, true, false, List, length, get_or, refl, arith, add-one, Option, None, ◌⊎◌, inl, inr}
 use Rattle.tab_core.specs.declared.vcpu.Vcpu.{Vcpu}
-use Rattle.view_table.specs.Groups.{any_below, asked_at, is_of, least_in, lesser, most_in, sum_where, vm_end}
+use Rattle.view_table.specs.Groups.{any_below, asked_at, is_of_vm, least_in, lesser, most_in, sum_where, vm_end}
 use Rattle.view_table.specs.Totals.{each}
 
 -- ---- before the first
@@ -36,8 +36,8 @@ least_in-zero vcpus names vm = refl
 -- to the least latency, as a loop has it
 pub least_step : (vcpus : List Vcpu) (names : List (List ℕ)) (vm : List ℕ) (v : ℕ) (old new : Option ℕ)
     → old ≡ least_in vcpus names vm v
-    → ((is_of names vm v ≡ true) × (new ≡ lesser old (asked_at vcpus names v)))
-    ⊎ ((is_of names vm v ≡ false) × (new ≡ old))
+    → ((is_of_vm names vm v ≡ true) × (new ≡ lesser old (asked_at vcpus names v)))
+    ⊎ ((is_of_vm names vm v ≡ false) × (new ≡ old))
     → new ≡ least_in vcpus names vm (v + 1)
 unfolding least_in
 least_step vcpus names vm v old new before (inl h) =
@@ -93,7 +93,7 @@ sum_more f v = ap (sum_where each f) (add-one v)
 
 -- to the greatest
 pub most_step : (f : ℕ → ℕ) (names : List (List ℕ)) (vm : List ℕ) (v old new : ℕ) → old ≡ most_in f names vm v
-    → ((is_of names vm v ≡ true) × (new ≡ max old (f v))) ⊎ ((is_of names vm v ≡ false) × (new ≡ old))
+    → ((is_of_vm names vm v ≡ true) × (new ≡ max old (f v))) ⊎ ((is_of_vm names vm v ≡ false) × (new ≡ old))
     → new ≡ most_in f names vm (v + 1)
 unfolding most_in
 most_step f names vm v old new before (inl h) =

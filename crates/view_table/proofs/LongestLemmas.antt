@@ -3,7 +3,7 @@ use Rattle.std.proofs.Common.{◌≡◌, ℕ, zero, suc, ◌+◌, ◌-◌, ◌*�
 use Rattle.std.specs.List.{list_any}
 use Rattle.tab_core.specs.declared.TheConstants.{ROUND}
 use Rattle.view_doc.specs.declared.view.Stretch.{Stretch}
-use Rattle.view_table.specs.Waits.{IsLongestWait, IsWait, is_served, longest, serves, wait_of, waited}
+use Rattle.view_table.specs.Waits.{IsLongestWait, IsSlotWait, is_served, longest, serves, wait_of, waited}
 
 bool_cases : (b : Bool) → (b ≡ true) ⊎ (b ≡ false)
 bool_cases true = inl refl
@@ -139,7 +139,7 @@ comes first place low = elim (order (first % ROUND) place) [
 
 -- a wait is shorter than a round
 short : (slots : List Stretch) (v place first last : ℕ) → place < ROUND → is_served slots v place ≡ true
-    → IsWait slots v first last → last < first + ROUND
+    → IsSlotWait slots v first last → last < first + ROUND
 short slots v place first last low served wait = elim (order last (first + ROUND)) [
   | inl less ↦ less
   | inr more ↦
@@ -154,7 +154,7 @@ short slots v place first last low served wait = elim (order last (first + ROUND
     order a b = grind arith
 
 -- a wait is the same in the first two rounds
-moved : (slots : List Stretch) (v first last x : ℕ) → IsWait slots v first last → first % ROUND ≤ x
+moved : (slots : List Stretch) (v first last x : ℕ) → IsSlotWait slots v first last → first % ROUND ≤ x
     → x ≤ first % ROUND + (last - first) → is_served slots v x ≡ false
 moved slots v first last x wait low high =
     let y : ℕ = ROUND * (first / ROUND) + x in

@@ -7,7 +7,7 @@ use Rattle.tab_core.proofs.Lists.{drop_next}
 use Rattle.std.specs.List.{list_any}
 use Rattle.tab_core.specs.declared.TheConstants.{ROUND}
 use Rattle.view_doc.specs.declared.view.Stretch.{Stretch}
-use Rattle.view_table.specs.Inside.Walks.{AreByBegin, IsWalked, Rise, gives, is_due, last_mark, next_end, next_mark, next_wait}
+use Rattle.view_table.specs.Inside.Walks.{AreByBegin, IsWalked, SegmentsRise, gives, is_slot_in_round, last_mark, next_end, next_mark, next_wait}
 use Rattle.view_table.specs.Waits.{EndsAt, is_served, is_slot_of, longest, wait_of, waited}
 use Rattle.view_table.proofs.LongestLemmas.{waited_is}
 use Rattle.view_table.proofs.WaitLemmas.{longest-zero, served_over, waited-zero, waited_over}
@@ -124,7 +124,7 @@ mark_early false b mark most low early = early
 
 -- a slot of the vCPU is walked
 walk_due : (served : ℕ → Bool) (s : Stretch) (rest : List Stretch) (v base end wait mark : ℕ)
-    → is_due v s ≡ true → AllBegin s.from rest → IsWalked served (s ∷ rest) v base end wait mark
+    → is_slot_in_round v s ≡ true → AllBegin s.from rest → IsWalked served (s ∷ rest) v base end wait mark
     → IsWalked served rest v base (max end (base + min s.end ROUND)) (max wait (base + s.from - end))
     (if nat_lt wait (base + s.from - end) then base + s.from else mark)
 walk_due served s rest v base end wait mark due all walked =
@@ -151,7 +151,7 @@ walk_due served s rest v base end wait mark due all walked =
 
 -- another segment changes nothing for the vCPU
 walk_other : (served : ℕ → Bool) (s : Stretch) (rest : List Stretch) (v base end wait mark : ℕ)
-    → is_due v s ≡ false → IsWalked served (s ∷ rest) v base end wait mark
+    → is_slot_in_round v s ≡ false → IsWalked served (s ∷ rest) v base end wait mark
     → IsWalked served rest v base end wait mark
 walk_other served s rest v base end wait mark due walked = record {
   within = walked.within;
@@ -172,7 +172,7 @@ walk_one : (served : ℕ → Bool) (s : Stretch) (rest : List Stretch) (v base e
     → AllBegin s.from rest → IsWalked served (s ∷ rest) v base end wait mark
     → IsWalked served rest v base (next_end v base s end) (next_wait v base s end wait)
     (next_mark v base s end wait mark)
-walk_one served s rest v base end wait mark all walked = elim (bool_cases (is_due v s)) [
+walk_one served s rest v base end wait mark all walked = elim (bool_cases (is_slot_in_round v s)) [
   | inl due ↦ rw due (walk_due served s rest v base end wait mark due all walked)
   | inr due ↦ rw due (walk_other served s rest v base end wait mark due walked)
 ]
@@ -186,7 +186,7 @@ all_begin from (s ∷ ss) d each =
 
 -- one more segment of a list in order
 pub walk_step : (served : ℕ → Bool) (order : List Stretch) (i : ℕ) (s : Stretch) (v base end wait mark : ℕ)
-    (next waits marks : ℕ) → Rise order → i < length order → s ≡ get_or order i s
+    (next waits marks : ℕ) → SegmentsRise order → i < length order → s ≡ get_or order i s
     → next ≡ next_end v base s end → waits ≡ next_wait v base s end wait
     → marks ≡ next_mark v base s end wait mark → IsWalked served (drop i order) v base end wait mark
     → IsWalked served (drop (i + 1) order) v base next waits marks

@@ -1,6 +1,6 @@
 -- The table of a plan's vCPUs for other programs: as JSON, and as comma-separated values.
 -- Source: RFC 8259 and RFC 4180, but for the line ends. Names need no escape and no quotes.
-use Rattle.std.specs.Prelude.{ℕ, ◌*◌, ◌++◌, ◌==◌, nat_lt, Bool, true, false, if◌then◌else◌, List, [], codes, decimal, length, Option, Some, None, slice_get}
+use Rattle.std.specs.Prelude.{ℕ, ◌*◌, ◌++◌, nat_lt, Bool, true, false, if◌then◌else◌, List, [], codes, decimal, length, Option, Some, None, slice_get}
 use Rattle.tab_core.specs.declared.TheConstants.{ROUND}
 use Rattle.tab_core.specs.declared.reservation.Reservation.{Reservation}
 use Rattle.tab_core.specs.declared.vcpu.Vcpu.{Vcpu}
@@ -9,10 +9,11 @@ use Rattle.vcpu_names.specs.Names.{name_at}
 use Rattle.view_doc.specs.declared.view.Stretch.{Stretch}
 use Rattle.view_doc.specs.declared.view.Task.{Task}
 use Rattle.view_doc.specs.declared.view.View.{View}
-use Rattle.table_cells.specs.Cells.{yes_or_no}
+use Rattle.view_cells.specs.Cells.{yes_or_no}
+use Rattle.view_cells.specs.CellTexts.{comma_before, truth_text}
 use Rattle.view_table.specs.Groups.{any_below}
-use Rattle.view_table.specs.Loads.{load_of, stands_on}
-use Rattle.view_table.specs.Table.{asked_of, is_kept, of_round, share_of}
+use Rattle.view_table.specs.Loads.{has_slot_on, load_of_core}
+use Rattle.view_table.specs.Table.{asked_of, is_promise_kept, of_round, task_share}
 use Rattle.view_table.specs.Waits.{wait_of}
 
 -- ---- what may be missing
@@ -41,20 +42,15 @@ latency_or (Some r) = Some r.latency_ns
 abbrev pub wait_or : ℕ → ℕ → Option ℕ
 wait_or tick wait = if nat_lt wait (2 * ROUND) then Some (wait * tick) else None
 
--- the word of JSON for whether something is so
-abbrev pub truth_text : Bool → List ℕ
-truth_text true = codes "true"
-truth_text false = codes "false"
-
 -- whether all that was promised is kept, in JSON; null where nothing was promised
 abbrev pub json_kept : ℕ → Option Reservation → ℕ → ℕ → List ℕ
 json_kept tick None share wait = codes "null"
-json_kept tick (Some r) share wait = truth_text (is_kept tick r share wait)
+json_kept tick (Some r) share wait = truth_text (is_promise_kept tick r share wait)
 
 -- whether all that was promised is kept, in a column; nothing where nothing was promised
 abbrev pub csv_kept : ℕ → Option Reservation → ℕ → ℕ → List ℕ
 csv_kept tick None share wait = []
-csv_kept tick (Some r) share wait = yes_or_no (is_kept tick r share wait)
+csv_kept tick (Some r) share wait = yes_or_no (is_promise_kept tick r share wait)
 
 -- ---- the cores of a vCPU
 
@@ -65,8 +61,8 @@ part_before between false = []
 
 -- the number of a core where the vCPU has a slot, with this before it unless it is the first of them
 abbrev pub core_data : List ℕ → List Stretch → ℕ → ℕ → List ℕ
-core_data between slots v core = if stands_on slots v core
-    then part_before between (any_below (stands_on slots v) core) ++ decimal core else []
+core_data between slots v core = if has_slot_on slots v core
+    then part_before between (any_below (has_slot_on slots v) core) ++ decimal core else []
 
 -- ---- JSON
 
@@ -74,7 +70,7 @@ core_data between slots v core = if stands_on slots v core
 unfoldable pub json_shares : List ℕ → Option Reservation → Task → List ℕ
 json_shares name asked t = codes "{\"name\":\"" ++ (name
     ++ (codes "\",\"asked_ppm\":" ++ (number_or (codes "null") (share_or asked)
-    ++ (codes ",\"given_ppm\":" ++ (decimal (share_of t) ++ codes ",")))))
+    ++ (codes ",\"given_ppm\":" ++ (decimal (task_share t) ++ codes ",")))))
 
 -- a vCPU's period, its longest wait, and the latency that it was promised, in nanoseconds
 unfoldable pub json_times : ℕ → Option Reservation → Task → ℕ → List ℕ
@@ -84,7 +80,7 @@ json_times tick asked t wait = codes "\"period_ns\":" ++ (decimal (t.period * ti
 
 -- whether a vCPU has what it was promised, and its home
 unfoldable pub json_home : ℕ → Option Reservation → Task → ℕ → List ℕ
-json_home tick asked t wait = codes "\"kept\":" ++ (json_kept tick asked (share_of t) wait
+json_home tick asked t wait = codes "\"kept\":" ++ (json_kept tick asked (task_share t) wait
     ++ (codes ",\"home\":" ++ (decimal t.home ++ codes ",\"cores\":[")))
 
 -- a vCPU's object up to its cores
@@ -92,38 +88,34 @@ abbrev pub json_facts : ℕ → List ℕ → Option Reservation → Task → ℕ
 json_facts tick name asked t wait = json_shares name asked t
     ++ (json_times tick asked t wait ++ json_home tick asked t wait)
 
--- a comma before each but the first
-abbrev pub comma_before : ℕ → List ℕ
-comma_before n = if n == 0 then [] else codes ","
-
 -- the object of the vCPU of a number, if the plan has a line for it
-abbrev pub json_of : Option (List Vcpu) → ℕ → List (List ℕ) → List Stretch → ℕ → ℕ → Option Task → List ℕ
-json_of host tick names slots cores v None = []
-json_of host tick names slots cores v (Some t) = comma_before v
+abbrev pub vcpu_json : Option (List Vcpu) → ℕ → List (List ℕ) → List Stretch → ℕ → ℕ → Option Task → List ℕ
+vcpu_json host tick names slots cores v None = []
+vcpu_json host tick names slots cores v (Some t) = comma_before v
     ++ (json_facts tick (name_at names v) (asked_by host (name_at names v)) t (wait_of slots v)
     ++ (texts_below (core_data (codes ",") slots v) cores ++ codes "]}"))
 
 -- the object of the vCPU of a number of a view
 abbrev pub json_row : Option (List Vcpu) → ℕ → View → ℕ → List ℕ
-json_row host tick view v = json_of host tick view.names.items view.slots.items view.cores v
+json_row host tick view v = vcpu_json host tick view.names.items view.slots.items view.cores v
     (slice_get view.tasks.items v)
 
 -- the load of a core, in parts per million of a round
 abbrev pub load_data : List Stretch → ℕ → List ℕ
-load_data slots core = comma_before core ++ decimal (of_round (load_of slots core))
+load_data slots core = comma_before core ++ decimal (of_round (load_of_core slots core))
 
 -- the beginning of the text, up to the vCPUs
-unfoldable pub json_begin : ℕ → List ℕ
-json_begin tick = codes "{\"form\":1,\"tick_ns\":" ++ (decimal tick ++ codes ",\"vcpus\":[")
+unfoldable pub table_json_begin : ℕ → List ℕ
+table_json_begin tick = codes "{\"form\":1,\"tick_ns\":" ++ (decimal tick ++ codes ",\"vcpus\":[")
 
 -- what is between the vCPUs and the loads
-abbrev pub load_head : List ℕ
-load_head = codes "],\"load_ppm\":["
+abbrev pub json_loads_begin : List ℕ
+json_loads_begin = codes "],\"load_ppm\":["
 
 -- the vCPUs of a plan, and the loads of its cores
 abbrev pub table_json : Option (List Vcpu) → ℕ → View → List ℕ
-table_json host tick view = json_begin tick
-    ++ (texts_below (json_row host tick view) (length view.tasks.items) ++ (load_head
+table_json host tick view = table_json_begin tick
+    ++ (texts_below (json_row host tick view) (length view.tasks.items) ++ (json_loads_begin
     ++ (texts_below (load_data view.slots.items) view.cores ++ codes "]}\n")))
 
 -- ---- comma-separated values
@@ -131,7 +123,7 @@ table_json host tick view = json_begin tick
 -- a vCPU's name, and its share as asked for and as given
 unfoldable pub csv_shares : List ℕ → Option Reservation → Task → List ℕ
 csv_shares name asked t = name ++ (codes "," ++ (number_or [] (share_or asked)
-    ++ (codes "," ++ (decimal (share_of t) ++ codes ","))))
+    ++ (codes "," ++ (decimal (task_share t) ++ codes ","))))
 
 -- a vCPU's period, its longest wait, and the latency that it was promised, in nanoseconds
 unfoldable pub csv_times : ℕ → Option Reservation → Task → ℕ → List ℕ
@@ -140,7 +132,7 @@ csv_times tick asked t wait = decimal (t.period * tick) ++ (codes "," ++ (number
 
 -- whether a vCPU has what it was promised, and its home
 unfoldable pub csv_home : ℕ → Option Reservation → Task → ℕ → List ℕ
-csv_home tick asked t wait = csv_kept tick asked (share_of t) wait
+csv_home tick asked t wait = csv_kept tick asked (task_share t) wait
     ++ (codes "," ++ (decimal t.home ++ codes ","))
 
 -- a vCPU's row up to its cores
@@ -149,22 +141,22 @@ csv_facts tick name asked t wait = csv_shares name asked t
     ++ (csv_times tick asked t wait ++ csv_home tick asked t wait)
 
 -- the row of the vCPU of a number, if the plan has a line for it
-abbrev pub csv_of : Option (List Vcpu) → ℕ → List (List ℕ) → List Stretch → ℕ → ℕ → Option Task → List ℕ
-csv_of host tick names slots cores v None = []
-csv_of host tick names slots cores v (Some t) =
+abbrev pub vcpu_csv : Option (List Vcpu) → ℕ → List (List ℕ) → List Stretch → ℕ → ℕ → Option Task → List ℕ
+vcpu_csv host tick names slots cores v None = []
+vcpu_csv host tick names slots cores v (Some t) =
     csv_facts tick (name_at names v) (asked_by host (name_at names v)) t (wait_of slots v)
     ++ (texts_below (core_data (codes " ") slots v) cores ++ codes "\n")
 
 -- the row of the vCPU of a number of a view
 abbrev pub csv_row : Option (List Vcpu) → ℕ → View → ℕ → List ℕ
-csv_row host tick view v = csv_of host tick view.names.items view.slots.items view.cores v
+csv_row host tick view v = vcpu_csv host tick view.names.items view.slots.items view.cores v
     (slice_get view.tasks.items v)
 
 -- the names of the columns
-abbrev pub csv_head : List ℕ
-csv_head = codes "vcpu,asked_ppm,given_ppm,period_ns,wait_ns,promised_ns,kept,home,cores\n"
+abbrev pub table_csv_head : List ℕ
+table_csv_head = codes "vcpu,asked_ppm,given_ppm,period_ns,wait_ns,promised_ns,kept,home,cores\n"
 
 -- the vCPUs of a plan
 abbrev pub table_csv : Option (List Vcpu) → ℕ → View → List ℕ
-table_csv host tick view = csv_head
+table_csv host tick view = table_csv_head
     ++ texts_below (csv_row host tick view) (length view.tasks.items)

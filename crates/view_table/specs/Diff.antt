@@ -9,9 +9,9 @@ use Rattle.view_doc.specs.declared.view.Task.{Task}
 use Rattle.view_doc.specs.declared.view.Use.{Use}
 use Rattle.view_doc.specs.declared.view.Use.TheVariants.{Idle, Slot, Shared}
 use Rattle.view_doc.specs.declared.view.View.{View}
-use Rattle.table_cells.specs.Cells.{count_cell, millis_cell, percent_cell}
-use Rattle.view_table.specs.Loads.{load_of}
-use Rattle.view_table.specs.Table.{of_round, share_of}
+use Rattle.view_cells.specs.Cells.{count_cell, millis_cell, percent_cell}
+use Rattle.view_table.specs.Loads.{load_of_core}
+use Rattle.view_table.specs.Table.{of_round, task_share}
 use Rattle.view_table.specs.Waits.{wait_of}
 
 -- the number below n of the vCPU of this name, the greatest where there are several
@@ -30,8 +30,8 @@ unfoldable pub lone_line : List ℕ → List ℕ → List ℕ → List ℕ
 lone_line kind name word = kind ++ (name ++ word)
 
 -- the line of a vCPU, or of a VM, of which this was one thing and is another
-unfoldable pub change_line : List ℕ → List ℕ → List ℕ → List ℕ → List ℕ → List ℕ → List ℕ
-change_line kind name what old new unit = kind ++ (name ++ (what ++ (old ++ (codes " to " ++ (new ++ unit)))))
+unfoldable pub difference_line : List ℕ → List ℕ → List ℕ → List ℕ → List ℕ → List ℕ → List ℕ
+difference_line kind name what old new unit = kind ++ (name ++ (what ++ (old ++ (codes " to " ++ (new ++ unit)))))
 
 -- nothing where two numbers are one
 abbrev pub unless_same : ℕ → ℕ → List ℕ → List ℕ
@@ -44,50 +44,50 @@ wait_word tick wait = if nat_lt wait (2 * ROUND) then millis_cell 0 (wait * tick
 -- the line of a vCPU that has another home; nothing where it has the same
 abbrev pub home_change : List ℕ → Task → Task → List ℕ
 home_change name t u = unless_same t.home u.home
-    (change_line vcpu_word name (codes " home ") (count_cell 0 t.home) (count_cell 0 u.home) (codes "\n"))
+    (difference_line vcpu_word name (codes " home ") (count_cell 0 t.home) (count_cell 0 u.home) (codes "\n"))
 
 -- the line of a vCPU, or of a VM, that has another share, in parts per million; nothing where it has the
 -- same
 abbrev pub share_change : List ℕ → List ℕ → ℕ → ℕ → List ℕ
 share_change kind name a b = unless_same a b
-    (change_line kind name (codes " share ") (percent_cell 0 a) (percent_cell 0 b) (codes " %\n"))
+    (difference_line kind name (codes " share ") (percent_cell 0 a) (percent_cell 0 b) (codes " %\n"))
 
 -- the line of a vCPU that has another period, in ticks of so many nanoseconds; nothing where it has the same
 abbrev pub period_change : ℕ → List ℕ → Task → Task → List ℕ
 period_change tick name t u = unless_same t.period u.period
-    (change_line vcpu_word name (codes " period ") (millis_cell 0 (t.period * tick)) (millis_cell 0 (u.period * tick))
+    (difference_line vcpu_word name (codes " period ") (millis_cell 0 (t.period * tick)) (millis_cell 0 (u.period * tick))
     (codes " ms\n"))
 
 -- the line of a vCPU, or of a VM, that has another longest wait, in ticks of so many nanoseconds; nothing
 -- where it has the same
 abbrev pub wait_change : List ℕ → ℕ → List ℕ → ℕ → ℕ → List ℕ
 wait_change kind tick name a b = unless_same a b
-    (change_line kind name (codes " wait ") (wait_word tick a) (wait_word tick b) (codes " ms\n"))
+    (difference_line kind name (codes " wait ") (wait_word tick a) (wait_word tick b) (codes " ms\n"))
 
 -- what changed of a vCPU that both plans have
 abbrev pub changes : ℕ → List ℕ → Task → Task → ℕ → ℕ → List ℕ
-changes tick name t u a b = home_change name t u ++ (share_change vcpu_word name (share_of t) (share_of u)
+changes tick name t u a b = home_change name t u ++ (share_change vcpu_word name (task_share t) (task_share u)
     ++ (period_change tick name t u ++ wait_change vcpu_word tick name a b))
 
 -- what changed of a vCPU, if both plans have a line for it
-abbrev pub changes_of : ℕ → List ℕ → Option Task → Option Task → ℕ → ℕ → List ℕ
-changes_of tick name None u a b = []
-changes_of tick name (Some t) None a b = []
-changes_of tick name (Some t) (Some u) a b = changes tick name t u a b
+abbrev pub differences_of : ℕ → List ℕ → Option Task → Option Task → ℕ → ℕ → List ℕ
+differences_of tick name None u a b = []
+differences_of tick name (Some t) None a b = []
+differences_of tick name (Some t) (Some u) a b = changes tick name t u a b
 
 -- the number that a vCPU of a plan has in another
-abbrev pub number_in : View → List ℕ → Option ℕ
-number_in view name = number_of view.names.items (length view.tasks.items) name
+abbrev pub vcpu_number_in : View → List ℕ → Option ℕ
+vcpu_number_in view name = number_of view.names.items (length view.tasks.items) name
 
 -- the lines of a vCPU of the old plan
 abbrev pub old_found : ℕ → View → View → ℕ → Option ℕ → List ℕ
 old_found tick old new v None = lone_line vcpu_word (name_at old.names.items v) (codes " gone\n")
-old_found tick old new v (Some w) = changes_of tick (name_at old.names.items v) (slice_get old.tasks.items v)
+old_found tick old new v (Some w) = differences_of tick (name_at old.names.items v) (slice_get old.tasks.items v)
     (slice_get new.tasks.items w) (wait_of old.slots.items v) (wait_of new.slots.items w)
 
 -- the lines of the vCPU of a number of the old plan
 abbrev pub old_lines : ℕ → View → View → ℕ → List ℕ
-old_lines tick old new v = old_found tick old new v (number_in new (name_at old.names.items v))
+old_lines tick old new v = old_found tick old new v (vcpu_number_in new (name_at old.names.items v))
 
 -- the line of a vCPU of the new plan that the old one hasn't
 abbrev pub new_found : List ℕ → Option ℕ → List ℕ
@@ -96,7 +96,7 @@ new_found name (Some v) = []
 
 -- the line of the vCPU of a number of the new plan, if the old one hasn't it
 abbrev pub new_lines : View → View → ℕ → List ℕ
-new_lines old new w = new_found (name_at new.names.items w) (number_in old (name_at new.names.items w))
+new_lines old new w = new_found (name_at new.names.items w) (vcpu_number_in old (name_at new.names.items w))
 
 -- the line of a core that both have
 unfoldable pub load_line : ℕ → ℕ → ℕ → List ℕ
@@ -109,7 +109,7 @@ load_change core a b = unless_same a b (load_line core a b)
 
 -- the line of the core of a number, if its load is another in the new plan
 abbrev pub load_lines : View → View → ℕ → List ℕ
-load_lines old new core = load_change core (load_of old.slots.items core) (load_of new.slots.items core)
+load_lines old new core = load_change core (load_of_core old.slots.items core) (load_of_core new.slots.items core)
 
 -- the line of the counts of cores
 unfoldable pub count_line : ℕ → ℕ → List ℕ

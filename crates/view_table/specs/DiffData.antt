@@ -5,9 +5,10 @@ use Rattle.tab_words.specs.Texts.{texts_below}
 use Rattle.vcpu_names.specs.Names.{name_at}
 use Rattle.view_doc.specs.declared.view.Task.{Task}
 use Rattle.view_doc.specs.declared.view.View.{View}
-use Rattle.view_table.specs.Data.{comma_before, json_begin, load_data, number_or, wait_or}
-use Rattle.view_table.specs.Diff.{number_in, same_slots}
-use Rattle.view_table.specs.Table.{share_of}
+use Rattle.view_cells.specs.CellTexts.{comma_before}
+use Rattle.view_table.specs.Data.{load_data, number_or, table_json_begin, wait_or}
+use Rattle.view_table.specs.Diff.{same_slots, vcpu_number_in}
+use Rattle.view_table.specs.Table.{task_share}
 use Rattle.view_table.specs.Waits.{wait_of}
 use Rattle.view_table.specs.declared.diff_data.Form.{Form}
 use Rattle.view_table.specs.declared.diff_data.Form.TheVariants.{Json, Csv}
@@ -17,13 +18,13 @@ use Rattle.view_table.specs.declared.diff_data.Style.{Style}
 
 -- what a vCPU has in one of the plans, in JSON: its share, period, longest wait and home
 unfoldable pub json_side : ℕ → Task → ℕ → List ℕ
-json_side tick t wait = codes "{\"share_ppm\":" ++ (decimal (share_of t) ++ (codes ",\"period_ns\":"
+json_side tick t wait = codes "{\"share_ppm\":" ++ (decimal (task_share t) ++ (codes ",\"period_ns\":"
     ++ (decimal (t.period * tick) ++ (codes ",\"wait_ns\":" ++ (number_or (codes "null") (wait_or tick wait)
     ++ (codes ",\"home\":" ++ (decimal t.home ++ codes "}")))))))
 
 -- what a vCPU has in one of the plans, in columns: its share, period, longest wait and home
 unfoldable pub csv_side : ℕ → Task → ℕ → List ℕ
-csv_side tick t wait = decimal (share_of t) ++ (codes "," ++ (decimal (t.period * tick) ++ (codes ","
+csv_side tick t wait = decimal (task_share t) ++ (codes "," ++ (decimal (t.period * tick) ++ (codes ","
     ++ (number_or [] (wait_or tick wait) ++ (codes "," ++ decimal t.home)))))
 
 -- what is written where a plan hasn't the vCPU
@@ -82,7 +83,7 @@ new_part style view w = row_middle style.form ++ (side_in style view w ++ row_en
 -- a vCPU of the old plan
 abbrev pub old_row : Style → View → View → ℕ → List ℕ
 old_row style old new v = old_part style v (name_at old.names.items v) old (Some v)
-    ++ new_part style new (number_in new (name_at old.names.items v))
+    ++ new_part style new (vcpu_number_in new (name_at old.names.items v))
 
 -- a vCPU of the new plan that the old one hasn't; it comes after those of the old one
 abbrev pub added_row : Style → View → View → ℕ → List ℕ
@@ -97,7 +98,7 @@ new_found style old new w (Some v) = []
 
 -- the row of the vCPU of a number of the new plan, if the old one hasn't it
 abbrev pub new_row : Style → View → View → ℕ → List ℕ
-new_row style old new w = new_found style old new w (number_in old (name_at new.names.items w))
+new_row style old new w = new_found style old new w (vcpu_number_in old (name_at new.names.items w))
 
 -- each vCPU of either plan
 abbrev pub both_rows : Style → View → View → List ℕ
@@ -130,7 +131,7 @@ slots_part old new =
 
 -- the vCPUs of two plans, the loads of their cores, and whether the segments are others
 abbrev pub diff_json : ℕ → View → View → List ℕ
-diff_json tick old new = json_begin tick ++ (both_rows (record { form = Json; tick_ns = tick }) old new
+diff_json tick old new = table_json_begin tick ++ (both_rows (record { form = Json; tick_ns = tick }) old new
     ++ (old_loads old ++ (new_loads new ++ slots_part old new)))
 
 -- the names of the columns

@@ -8,9 +8,9 @@ use Rattle.vcpu_names.specs.Names.{name_at}
 use Rattle.view_doc.specs.declared.view.Stretch.{Stretch}
 use Rattle.view_doc.specs.declared.view.Task.{Task}
 use Rattle.view_doc.specs.declared.view.View.{View}
-use Rattle.table_cells.specs.Cells.{count_cell, left, millis_cell, percent_cell, right, width_below, yes_or_no}
-use Rattle.view_table.specs.Loads.{stands_on}
-use Rattle.view_table.specs.Table.{asked_of, core_head, core_row, is_kept, share_of, wait_cell}
+use Rattle.view_cells.specs.Cells.{count_cell, left, millis_cell, percent_cell, right, width_below, yes_or_no}
+use Rattle.view_table.specs.Loads.{has_slot_on}
+use Rattle.view_table.specs.Table.{asked_of, core_head, core_row, is_promise_kept, task_share, wait_cell}
 use Rattle.view_table.specs.Waits.{wait_of}
 
 -- where the VM's part of a name ends, by so many of its bytes: at the last dot after the first byte,
@@ -24,8 +24,8 @@ abbrev pub vm_of : List ℕ → List ℕ
 vm_of name = take (vm_end name (length name)) name
 
 -- the vCPU of a number is of this VM
-abbrev pub is_of : List (List ℕ) → List ℕ → ℕ → Bool
-is_of names vm v = bytes_eq (vm_of (name_at names v)) vm
+abbrev pub is_of_vm : List (List ℕ) → List ℕ → ℕ → Bool
+is_of_vm names vm v = bytes_eq (vm_of (name_at names v)) vm
 
 -- some vCPU below n passes
 unfoldable pub any_below : (ℕ → Bool) → ℕ → Bool
@@ -43,21 +43,21 @@ count_where test n = sum_where test (λ v. 1) n
 
 -- the sum of a figure of the vCPUs below n that are of the VM
 abbrev pub sum_in : (ℕ → ℕ) → List (List ℕ) → List ℕ → ℕ → ℕ
-sum_in figure names vm n = sum_where (is_of names vm) figure n
+sum_in figure names vm n = sum_where (is_of_vm names vm) figure n
 
 -- the greatest figure of the vCPUs below n that are of the VM, and 0 where there is none
 unfoldable pub most_in : (ℕ → ℕ) → List (List ℕ) → List ℕ → ℕ → ℕ
 most_in figure names vm zero = 0
-most_in figure names vm (suc v) = max (most_in figure names vm v) (if is_of names vm v then figure v else 0)
+most_in figure names vm (suc v) = max (most_in figure names vm v) (if is_of_vm names vm v then figure v else 0)
 
 -- the share of a vCPU of a number
 abbrev pub share_in : Option Task → ℕ
 share_in None = 0
-share_in (Some t) = share_of t
+share_in (Some t) = task_share t
 
 -- the vCPU is of the VM, and has a slot on the core
 abbrev pub vm_stands : List (List ℕ) → List ℕ → List Stretch → ℕ → ℕ → Bool
-vm_stands names vm slots core v = stands_on slots v core && is_of names vm v
+vm_stands names vm slots core v = has_slot_on slots v core && is_of_vm names vm v
 
 -- the number of a core where a vCPU of the VM has a slot; else nothing
 abbrev pub vm_core : List (List ℕ) → List ℕ → List Stretch → ℕ → ℕ → List ℕ
@@ -69,9 +69,9 @@ abbrev pub asked_at : List Vcpu → List (List ℕ) → ℕ → Option Reservati
 asked_at vcpus names v = asked_of vcpus (name_at names v)
 
 -- the share that was reserved, in parts per million; 0 where nothing was
-abbrev pub ppm_of : Option Reservation → ℕ
-ppm_of None = 0
-ppm_of (Some r) = r.share_ppm
+abbrev pub asked_ppm : Option Reservation → ℕ
+asked_ppm None = 0
+asked_ppm (Some r) = r.share_ppm
 
 -- the least of latencies and one more, where there are any
 abbrev pub lesser : Option ℕ → Option Reservation → Option ℕ
@@ -82,13 +82,13 @@ lesser (Some ns) (Some r) = Some (min ns r.latency_ns)
 -- the least latency that was promised to a vCPU of the VM below n, if any was
 unfoldable pub least_in : List Vcpu → List (List ℕ) → List ℕ → ℕ → Option ℕ
 least_in vcpus names vm zero = None
-least_in vcpus names vm (suc v) = if is_of names vm v
+least_in vcpus names vm (suc v) = if is_of_vm names vm v
     then lesser (least_in vcpus names vm v) (asked_at vcpus names v) else least_in vcpus names vm v
 
 -- the share and the wait of a vCPU don't keep what was promised to it; where nothing was, nothing is broken
 abbrev pub is_broken_by : ℕ → Option Reservation → ℕ → ℕ → Bool
 is_broken_by tick None share wait = false
-is_broken_by tick (Some r) share wait = not (is_kept tick r share wait)
+is_broken_by tick (Some r) share wait = not (is_promise_kept tick r share wait)
 
 -- what was promised to the vCPU of a number isn't kept; nothing was where none of its name is admitted
 abbrev pub is_broken : ℕ → List Vcpu → List (List ℕ) → List Task → List Stretch → ℕ → Bool
@@ -97,7 +97,7 @@ is_broken tick vcpus names tasks slots v =
 
 -- one of the VM's vCPUs hasn't what it was promised
 abbrev pub vm_breaks : ℕ → List Vcpu → List (List ℕ) → List ℕ → List Task → List Stretch → ℕ → Bool
-vm_breaks tick vcpus names vm tasks slots v = is_broken tick vcpus names tasks slots v && is_of names vm v
+vm_breaks tick vcpus names vm tasks slots v = is_broken tick vcpus names tasks slots v && is_of_vm names vm v
 
 -- ---- rows
 
@@ -112,9 +112,9 @@ sum_cell None share = right 10 (codes "-")
 sum_cell (Some ns) share = percent_cell 5 share
 
 -- the least latency that was promised, or a dash
-abbrev pub least_cell : Option ℕ → List ℕ
-least_cell None = right 13 (codes "-")
-least_cell (Some ns) = millis_cell 9 ns
+abbrev pub least_latency_cell : Option ℕ → List ℕ
+least_latency_cell None = right 13 (codes "-")
+least_latency_cell (Some ns) = millis_cell 9 ns
 
 -- whether each of its vCPUs has what it was promised, or a dash where nothing was promised
 abbrev pub all_kept_cell : Option ℕ → Bool → List ℕ
@@ -130,29 +130,29 @@ vm_cells tick width vm count share wait = left width vm ++ (count_cell 7 count
 unfoldable pub asked_vm_cells : ℕ → ℕ → List ℕ → ℕ → ℕ → ℕ → ℕ → Option ℕ → Bool → List ℕ
 asked_vm_cells tick width vm count asked share wait promised breaks = left width vm ++ (count_cell 7 count
     ++ (sum_cell promised asked ++ (percent_cell 5 share ++ (wait_cell tick wait
-    ++ (least_cell promised ++ (all_kept_cell promised breaks ++ codes " "))))))
+    ++ (least_latency_cell promised ++ (all_kept_cell promised breaks ++ codes " "))))))
 
 -- the cells of a VM of these vCPUs
 abbrev pub vm_figures : Option (List Vcpu) → ℕ → ℕ → List (List ℕ) → List Task → List Stretch → List ℕ → List ℕ
 vm_figures None tick width names tasks slots vm =
-    vm_cells tick width vm (count_where (is_of names vm) (length tasks))
+    vm_cells tick width vm (count_where (is_of_vm names vm) (length tasks))
     (sum_in (λ v. share_in (slice_get tasks v)) names vm (length tasks))
     (most_in (wait_of slots) names vm (length tasks))
 vm_figures (Some vcpus) tick width names tasks slots vm =
-    asked_vm_cells tick width vm (count_where (is_of names vm) (length tasks))
-    (sum_in (λ v. ppm_of (asked_at vcpus names v)) names vm (length tasks))
+    asked_vm_cells tick width vm (count_where (is_of_vm names vm) (length tasks))
+    (sum_in (λ v. asked_ppm (asked_at vcpus names v)) names vm (length tasks))
     (sum_in (λ v. share_in (slice_get tasks v)) names vm (length tasks))
     (most_in (wait_of slots) names vm (length tasks)) (least_in vcpus names vm (length tasks))
     (any_below (vm_breaks tick vcpus names vm tasks slots) (length tasks))
 
 -- the row of a VM
-abbrev pub vm_line : Option (List Vcpu) → ℕ → ℕ → List (List ℕ) → List Task → List Stretch → ℕ → List ℕ → List ℕ
-vm_line host tick width names tasks slots cores vm =
+abbrev pub named_vm_row : Option (List Vcpu) → ℕ → ℕ → List (List ℕ) → List Task → List Stretch → ℕ → List ℕ → List ℕ
+named_vm_row host tick width names tasks slots cores vm =
     vm_figures host tick width names tasks slots vm
     ++ (texts_below (vm_core names vm slots (length tasks)) cores ++ codes "\n")
 
 -- the row of the VM whose first vCPU has this number; other vCPUs have none
 abbrev pub vm_row : Option (List Vcpu) → ℕ → ℕ → List (List ℕ) → List Task → List Stretch → ℕ → ℕ → List ℕ
 vm_row host tick width names tasks slots cores v =
-    if any_below (is_of names (vm_of (name_at names v))) v then []
-    else vm_line host tick width names tasks slots cores (vm_of (name_at names v))
+    if any_below (is_of_vm names (vm_of (name_at names v))) v then []
+    else named_vm_row host tick width names tasks slots cores (vm_of (name_at names v))

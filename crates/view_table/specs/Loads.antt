@@ -18,13 +18,13 @@ abbrev pub ticks_on : ℕ → Stretch → ℕ
 ticks_on core s = if (s.core == core) && is_slot s.by then s.end - s.from else 0
 
 -- the load of a core: the ticks of its slots, which are no more than a round has
-abbrev pub load_of : List Stretch → ℕ → ℕ
-load_of slots core = min (sum_by (ticks_on core) slots) ROUND
+abbrev pub load_of_core : List Stretch → ℕ → ℕ
+load_of_core slots core = min (sum_by (ticks_on core) slots) ROUND
 
 -- the segment is a slot of the vCPU on this core
 abbrev pub stands_there : ℕ → ℕ → Stretch → Bool
 stands_there v core s = is_slot_of v s.by && (s.core == core)
 
 -- the vCPU has a slot on this core
-abbrev pub stands_on : List Stretch → ℕ → ℕ → Bool
-stands_on slots v core = list_any (stands_there v core) slots
+abbrev pub has_slot_on : List Stretch → ℕ → ℕ → Bool
+has_slot_on slots v core = list_any (stands_there v core) slots

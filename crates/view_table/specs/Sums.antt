@@ -1,11 +1,11 @@
 -- How many vCPUs and VMs of a plan have another home, share or wait in another plan.
 use Rattle.std.specs.Prelude.{ℕ, ◌-◌, ◌++◌, ◌==◌, ◌&&◌, Bool, true, false, not, List, codes, length, Option, Some, None, slice_get}
-use Rattle.table_cells.specs.Cells.{count_cell}
+use Rattle.view_cells.specs.Cells.{count_cell}
 use Rattle.vcpu_names.specs.Names.{name_at}
 use Rattle.view_doc.specs.declared.view.Task.{Task}
 use Rattle.view_doc.specs.declared.view.View.{View}
-use Rattle.view_table.specs.Diff.{number_in}
-use Rattle.view_table.specs.Groups.{any_below, count_where, is_of, share_in, vm_of}
+use Rattle.view_table.specs.Diff.{vcpu_number_in}
+use Rattle.view_table.specs.Groups.{any_below, count_where, is_of_vm, share_in, vm_of}
 use Rattle.view_table.specs.Waits.{wait_of}
 use Rattle.view_table.specs.declared.sums.Matter.{Matter}
 use Rattle.view_table.specs.declared.sums.Matter.TheVariants.{Home, Share, Wait, Any}
@@ -52,13 +52,13 @@ changed_to matter old new v (Some w) = is_other matter old new v w
 
 -- the home, the share or the wait of the old plan's vCPU of a number is another in the new plan
 abbrev pub is_changed : Matter → View → View → ℕ → Bool
-is_changed matter old new v = changed_to matter old new v (number_in new (name_at old.names.items v))
+is_changed matter old new v = changed_to matter old new v (vcpu_number_in new (name_at old.names.items v))
 
 -- ---- VMs
 
 -- the vCPU is one of the VM's, and its home, share or wait is another
 abbrev pub changes_there : Matter → View → View → List ℕ → ℕ → Bool
-changes_there matter old new vm v = is_of old.names.items vm v && is_changed matter old new v
+changes_there matter old new vm v = is_of_vm old.names.items vm v && is_changed matter old new v
 
 -- the VM of the vCPU of a number
 abbrev pub vm_at : View → ℕ → List ℕ
@@ -66,7 +66,7 @@ vm_at view v = vm_of (name_at view.names.items v)
 
 -- the vCPU is the first of its VM
 abbrev pub is_first : View → ℕ → Bool
-is_first view v = not (any_below (is_of view.names.items (vm_at view v)) v)
+is_first view v = not (any_below (is_of_vm view.names.items (vm_at view v)) v)
 
 -- the vCPU is the first of its VM, and one of the VM's vCPUs has another home, share or wait
 abbrev pub vm_changes : Matter → View → View → ℕ → Bool

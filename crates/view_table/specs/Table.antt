@@ -9,15 +9,15 @@ use Rattle.vcpu_names.specs.Names.{name_at}
 use Rattle.view_doc.specs.declared.view.Stretch.{Stretch}
 use Rattle.view_doc.specs.declared.view.Task.{Task}
 use Rattle.view_doc.specs.declared.view.View.{View}
-use Rattle.table_cells.specs.Cells.{count_cell, left, millis_cell, percent_cell, right, width_below, yes_or_no}
-use Rattle.view_table.specs.Loads.{load_of, stands_on}
+use Rattle.view_cells.specs.Cells.{count_cell, left, millis_cell, percent_cell, right, width_below, yes_or_no}
+use Rattle.view_table.specs.Loads.{has_slot_on, load_of_core}
 use Rattle.view_table.specs.Waits.{wait_of}
 
 -- ---- numbers
 
 -- a cost in each period as parts per million of a core, rounded down; 0 where the period is 0
-abbrev pub share_of : Task → ℕ
-share_of t = if t.period == 0 then 0 else t.cost * WHOLE_PPM / t.period
+abbrev pub task_share : Task → ℕ
+task_share t = if t.period == 0 then 0 else t.cost * WHOLE_PPM / t.period
 
 -- ticks as parts per million of a round, rounded down
 abbrev pub of_round : ℕ → ℕ
@@ -29,8 +29,8 @@ asked_of [] name = None
 asked_of (vcpu ∷ vcpus) name = if bytes_eq vcpu.name name then vcpu.reservation else asked_of vcpus name
 
 -- the share and the wait are as was promised; a wait of two rounds is without an end
-abbrev pub is_kept : ℕ → Reservation → ℕ → ℕ → Bool
-is_kept tick r share wait = nat_le r.share_ppm share
+abbrev pub is_promise_kept : ℕ → Reservation → ℕ → ℕ → Bool
+is_promise_kept tick r share wait = nat_le r.share_ppm share
     && (nat_lt wait (2 * ROUND) && nat_le (wait * tick) r.latency_ns)
 
 -- ---- cells
@@ -52,34 +52,34 @@ promised_cell (Some r) = millis_cell 9 r.latency_ns
 -- whether all was kept, or a dash
 abbrev pub kept_cell : ℕ → Option Reservation → ℕ → ℕ → List ℕ
 kept_cell tick None share wait = right 6 (codes "-")
-kept_cell tick (Some r) share wait = right 6 (yes_or_no (is_kept tick r share wait))
+kept_cell tick (Some r) share wait = right 6 (yes_or_no (is_promise_kept tick r share wait))
 
 -- a core where the vCPU has a slot
 abbrev pub core_word : List Stretch → ℕ → ℕ → List ℕ
-core_word slots v core = if stands_on slots v core then codes " " ++ decimal core else []
+core_word slots v core = if has_slot_on slots v core then codes " " ++ decimal core else []
 
 -- the cores where the vCPU has slots, which end its row
-abbrev pub core_words : List Stretch → ℕ → ℕ → List ℕ
-core_words slots cores v = codes " " ++ (texts_below (core_word slots v) cores ++ codes "\n")
+abbrev pub cores_cell : List Stretch → ℕ → ℕ → List ℕ
+cores_cell slots cores v = codes " " ++ (texts_below (core_word slots v) cores ++ codes "\n")
 
 -- ---- rows
 
 -- the first row, which names the columns; what was asked for is there where there is a host
-abbrev pub head_text : Option (List Vcpu) → List ℕ
-head_text None = codes "   share %  period ms    wait ms  cores\n"
-head_text (Some vcpus) =
+abbrev pub table_head : Option (List Vcpu) → List ℕ
+table_head None = codes "   share %  period ms    wait ms  cores\n"
+table_head (Some vcpus) =
     codes "   asked %   given %  period ms    wait ms  promised ms  kept  cores\n"
 
 -- the cells of a vCPU's row, with its longest wait
 unfoldable pub plain_cells : ℕ → ℕ → List ℕ → Task → ℕ → List ℕ
-plain_cells tick width name t wait = left width name ++ (percent_cell 5 (share_of t)
+plain_cells tick width name t wait = left width name ++ (percent_cell 5 (task_share t)
     ++ (millis_cell 7 (t.period * tick) ++ wait_cell tick wait))
 
 -- the cells of a vCPU's row beside what was asked for
 unfoldable pub asked_cells : ℕ → ℕ → List ℕ → Task → ℕ → Option Reservation → List ℕ
-asked_cells tick width name t wait r = left width name ++ (asked_cell r ++ (percent_cell 5 (share_of t)
+asked_cells tick width name t wait r = left width name ++ (asked_cell r ++ (percent_cell 5 (task_share t)
     ++ (millis_cell 7 (t.period * tick) ++ (wait_cell tick wait
-    ++ (promised_cell r ++ kept_cell tick r (share_of t) wait)))))
+    ++ (promised_cell r ++ kept_cell tick r (task_share t) wait)))))
 
 -- the cells of a vCPU's row, with what was asked for where there is a host
 abbrev pub row_cells : Option (List Vcpu) → ℕ → ℕ → List ℕ → Task → ℕ → List ℕ
@@ -87,15 +87,15 @@ row_cells None tick width name t wait = plain_cells tick width name t wait
 row_cells (Some vcpus) tick width name t wait = asked_cells tick width name t wait (asked_of vcpus name)
 
 -- the row of the vCPU of a number, if it has a line in the plan
-abbrev pub row_of : Option (List Vcpu) → ℕ → ℕ → List (List ℕ) → List Stretch → ℕ → ℕ → Option Task → List ℕ
-row_of host tick width names slots cores v None = []
-row_of host tick width names slots cores v (Some t) =
-    row_cells host tick width (name_at names v) t (wait_of slots v) ++ core_words slots cores v
+abbrev pub table_row_of : Option (List Vcpu) → ℕ → ℕ → List (List ℕ) → List Stretch → ℕ → ℕ → Option Task → List ℕ
+table_row_of host tick width names slots cores v None = []
+table_row_of host tick width names slots cores v (Some t) =
+    row_cells host tick width (name_at names v) t (wait_of slots v) ++ cores_cell slots cores v
 
 -- the row of the vCPU of a number of these tasks
-abbrev pub vcpu_row : Option (List Vcpu) → ℕ → ℕ → List (List ℕ) → List Task → List Stretch → ℕ → ℕ → List ℕ
-vcpu_row host tick width names tasks slots cores v =
-    row_of host tick width names slots cores v (slice_get tasks v)
+abbrev pub table_row : Option (List Vcpu) → ℕ → ℕ → List (List ℕ) → List Task → List Stretch → ℕ → ℕ → List ℕ
+table_row host tick width names tasks slots cores v =
+    table_row_of host tick width names slots cores v (slice_get tasks v)
 
 -- the row of a core: its load, and what is left of a round
 unfoldable pub core_cells : ℕ → ℕ → List ℕ
@@ -104,7 +104,7 @@ core_cells core load = count_cell 4 core ++ (percent_cell 5 (of_round load)
 
 -- the row of the core of a number
 abbrev pub core_row : List Stretch → ℕ → List ℕ
-core_row slots core = core_cells core (load_of slots core)
+core_row slots core = core_cells core (load_of_core slots core)
 
 -- the row that names the columns of cores, after an empty line
 abbrev pub core_head : List ℕ

@@ -2,10 +2,10 @@
 use Rattle.std.specs.Prelude.{ℕ, ◌++◌, List, codes, length, Option}
 use Rattle.tab_core.specs.declared.vcpu.Vcpu.{Vcpu}
 use Rattle.tab_words.specs.Texts.{texts_below}
-use Rattle.table_cells.specs.Cells.{left, width_below}
+use Rattle.view_cells.specs.Cells.{left, width_below}
 use Rattle.view_doc.specs.declared.view.View.{View}
 use Rattle.view_table.specs.Groups.{vm_head, vm_row}
-use Rattle.view_table.specs.Table.{core_head, core_row, head_text, vcpu_row}
+use Rattle.view_table.specs.Table.{core_head, core_row, table_head, table_row}
 use Rattle.view_table.specs.Totals.{total_text}
 
 -- what is after the rows of vCPUs or of VMs
@@ -15,8 +15,8 @@ end_text host tick view =
 
 -- the text of a row for each vCPU, with names in a column of this width
 abbrev pub table_of : Option (List Vcpu) → ℕ → ℕ → View → List ℕ
-table_of host tick width view = left width (codes "vcpu") ++ (head_text host
-    ++ (texts_below (vcpu_row host tick width view.names.items view.tasks.items view.slots.items view.cores)
+table_of host tick width view = left width (codes "vcpu") ++ (table_head host
+    ++ (texts_below (table_row host tick width view.names.items view.tasks.items view.slots.items view.cores)
     (length view.tasks.items) ++ end_text host tick view))
 
 -- the text of a row for each VM

@@ -1,10 +1,10 @@
 -- What differs between two plans by virtual machine: a line for each thing.
 use Rattle.std.specs.Prelude.{ℕ, ◌++◌, ◌==◌, Bool, if◌then◌else◌, min, List, [], codes, length, slice_get}
-use Rattle.table_cells.specs.Cells.{count_cell}
+use Rattle.view_cells.specs.Cells.{count_cell}
 use Rattle.tab_words.specs.Texts.{texts_below}
 use Rattle.view_doc.specs.declared.view.View.{View}
-use Rattle.view_table.specs.Diff.{change_line, count_change, load_lines, lone_line, share_change, slots_change, unless_same, wait_change}
-use Rattle.view_table.specs.Groups.{any_below, count_where, is_of, most_in, share_in, sum_in}
+use Rattle.view_table.specs.Diff.{count_change, difference_line, load_lines, lone_line, share_change, slots_change, unless_same, wait_change}
+use Rattle.view_table.specs.Groups.{any_below, count_where, is_of_vm, most_in, share_in, sum_in}
 use Rattle.view_table.specs.Sums.{changes_there, is_first, vm_at}
 use Rattle.view_table.specs.Waits.{wait_of}
 use Rattle.view_table.specs.declared.sums.Matter.TheVariants.{Home}
@@ -13,11 +13,11 @@ use Rattle.view_table.specs.declared.sums.Matter.TheVariants.{Home}
 
 -- some vCPU of the plan is of the VM
 abbrev pub is_vm : View → List ℕ → Bool
-is_vm view vm = any_below (is_of view.names.items vm) (length view.tasks.items)
+is_vm view vm = any_below (is_of_vm view.names.items vm) (length view.tasks.items)
 
 -- how many vCPUs of the plan are of the VM
 abbrev pub vm_count : View → List ℕ → ℕ
-vm_count view vm = count_where (is_of view.names.items vm) (length view.tasks.items)
+vm_count view vm = count_where (is_of_vm view.names.items vm) (length view.tasks.items)
 
 -- the shares of the VM's vCPUs together, in parts per million of a core
 abbrev pub vm_share : View → List ℕ → ℕ
@@ -40,7 +40,7 @@ vm_word = codes "vm "
 -- the line of a VM that has another count of vCPUs; nothing where it has the same
 abbrev pub vcpus_change : List ℕ → ℕ → ℕ → List ℕ
 vcpus_change vm a b = unless_same a b
-    (change_line vm_word vm (codes " vcpus ") (count_cell 0 a) (count_cell 0 b) (codes "\n"))
+    (difference_line vm_word vm (codes " vcpus ") (count_cell 0 a) (count_cell 0 b) (codes "\n"))
 
 -- so many vCPUs, of so many, have another home
 unfoldable pub moves_line : List ℕ → ℕ → ℕ → List ℕ

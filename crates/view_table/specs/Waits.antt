@@ -40,7 +40,7 @@ wait_of slots v = longest (is_served slots v) (2 * ROUND)
 -- ---- what such a wait is in the endless repetition
 
 -- from the first to the last of these ticks the vCPU has no slot
-pub record IsWait (slots : List Stretch) (v first last : ℕ) : Type 0 where
+pub record IsSlotWait (slots : List Stretch) (v first last : ℕ) : Type 0 where
   pub order : first ≤ last
   pub unserved : (x : ℕ) → first ≤ x → x ≤ last → is_served slots v x ≡ false
 
@@ -52,6 +52,6 @@ pub record EndsAt (slots : List Stretch) (v ticks mark : ℕ) : Type 0 where
 
 -- no wait has more ticks, and where this isn't 0 some wait has as many
 pub record IsLongestWait (slots : List Stretch) (v ticks : ℕ) : Type 0 where
-  pub most : (first last : ℕ) → IsWait slots v first last → suc last - first ≤ ticks
+  pub most : (first last : ℕ) → IsSlotWait slots v first last → suc last - first ≤ ticks
   pub reached : (ticks ≡ 0)
-      ⊎ ((first : ℕ) × (last : ℕ) × IsWait slots v first last × (suc last - first ≡ ticks))
+      ⊎ ((first : ℕ) × (last : ℕ) × IsSlotWait slots v first last × (suc last - first ≡ ticks))

@@ -4,10 +4,11 @@ ghost use Rattle.tab_io.specs.Sinks.{Writes};
 ghost use Rattle.tab_words.specs.Pieces.{piece_text};
 ghost use Rattle.tab_words.specs.Texts.{texts_below};
 ghost use Rattle.vcpu_names.specs.Names.{name_at as name_of};
-ghost use Rattle.view_table.specs.Data.{asked_by, comma_before, core_data, csv_facts, csv_head, csv_home, csv_kept, csv_of, csv_row, csv_shares, csv_times, json_begin, json_facts, json_home, json_kept, json_of, json_row, json_shares, json_times, latency_or, load_data, load_head, number_or, part_before, share_or, table_csv, table_json, truth_text, wait_or};
+ghost use Rattle.view_cells.specs.CellTexts.{comma_before, truth_text};
+ghost use Rattle.view_table.specs.Data.{asked_by, core_data, csv_facts, csv_home, csv_kept, csv_row, csv_shares, csv_times, json_facts, json_home, json_kept, json_loads_begin, json_row, json_shares, json_times, latency_or, load_data, number_or, part_before, share_or, table_csv, table_csv_head, table_json, table_json_begin, vcpu_csv, vcpu_json, wait_or};
 ghost use Rattle.view_table.specs.Figures.{AreFigures};
 ghost use Rattle.view_table.specs.Groups.{any_below};
-ghost use Rattle.view_table.specs.Loads.{load_of, stands_on};
+ghost use Rattle.view_table.specs.Loads.{has_slot_on, load_of_core};
 ghost use Rattle.view_table.specs.Table.{of_round};
 ghost use Rattle.view_table.specs.Waits.{wait_of};
 
@@ -17,7 +18,7 @@ use crate::rows::{asked_of, is_kept, load_of, loads_of, name_at, of_round, share
 use tab_core::{MAX_CORES, ROUND, Reservation, Vcpu};
 use tab_io::{Sink, WriteFault, write_all};
 use tab_words::{TextPiece, put_number, put_numbered, put_pieces};
-use table_cells::yes_or_no;
+use view_cells::yes_or_no;
 use view_doc::{Stretch, Task, View};
 
 /// Writes the vCPUs of a plan, whose figures these are, and the loads of its cores as JSON, in one line. Times are in
@@ -65,21 +66,21 @@ pub fn write_table_csv<K: Sink>(
     put_csv_rows(sink, host, view, figures, tick_ns)
 }
 
-#[tactic(auto, unfolding(crate::specs::Data::json_begin))]
+#[tactic(auto, unfolding(crate::specs::Data::table_json_begin))]
 pub(crate) fn put_begin<K: Sink>(sink: &mut K, tick_ns: u32) -> Result<(), WriteFault>
-    ensures { Writes (K.state sink.old) (K.state sink.new) (json_begin tick_ns) result }
+    ensures { Writes (K.state sink.old) (K.state sink.new) (table_json_begin tick_ns) result }
 {
     put_numbered(sink, b"{\"form\":1,\"tick_ns\":", tick_ns, b",\"vcpus\":[")
 }
 
 fn put_load_head<K: Sink>(sink: &mut K) -> Result<(), WriteFault>
-    ensures { Writes (K.state sink.old) (K.state sink.new) load_head result }
+    ensures { Writes (K.state sink.old) (K.state sink.new) json_loads_begin result }
 {
     write_all(sink, b"],\"load_ppm\":[")
 }
 
 fn put_csv_head<K: Sink>(sink: &mut K) -> Result<(), WriteFault>
-    ensures { Writes (K.state sink.old) (K.state sink.new) csv_head result }
+    ensures { Writes (K.state sink.old) (K.state sink.new) table_csv_head result }
 {
     write_all(
         sink,
@@ -136,7 +137,7 @@ fn put_object<K: Sink>(
     requires figures { AreFigures view.now figures.now }
     requires few { view.now.cores ≤ MAX_CORES }
     requires low { vcpu < length view.now.tasks.items }
-    ensures { Writes (K.state sink.old) (K.state sink.new) (json_of (option_copied host.entry) tick_ns
+    ensures { Writes (K.state sink.old) (K.state sink.new) (vcpu_json (option_copied host.entry) tick_ns
         view.now.names.items view.now.slots.items view.now.cores vcpu (Some task.now)) result }
 {
     put_comma(sink, vcpu)?;
@@ -319,7 +320,7 @@ fn put_csv_line<K: Sink>(
     requires figures { AreFigures view.now figures.now }
     requires few { view.now.cores ≤ MAX_CORES }
     requires low { vcpu < length view.now.tasks.items }
-    ensures { Writes (K.state sink.old) (K.state sink.new) (csv_of (option_copied host.entry) tick_ns
+    ensures { Writes (K.state sink.old) (K.state sink.new) (vcpu_csv (option_copied host.entry) tick_ns
         view.now.names.items view.now.slots.items view.now.cores vcpu (Some task.now)) result }
 {
     put_csv_named(sink, host, view, figures, tick_ns, vcpu, task)?;
@@ -577,7 +578,7 @@ fn stands_below(view: &View, figures: &Figures, vcpu: usize, count: u32) -> bool
     requires figures { AreFigures view.now figures.now }
     requires few { count < MAX_CORES }
     requires low { vcpu < length view.now.tasks.items }
-    ensures { result ≡ any_below (stands_on view.now.slots.items vcpu) count }
+    ensures { result ≡ any_below (has_slot_on view.now.slots.items vcpu) count }
 {
     let mut found = false;
     for core in 0..count {
@@ -592,7 +593,7 @@ fn stands_on(view: &View, figures: &Figures, vcpu: usize, core: u32) -> bool
     requires figures { AreFigures view.now figures.now }
     requires few { core < MAX_CORES }
     requires low { vcpu < length view.now.tasks.items }
-    ensures { result ≡ stands_on view.now.slots.items vcpu core }
+    ensures { result ≡ has_slot_on view.now.slots.items vcpu core }
 {
     figures.stands[vcpu * MAX_CORES as usize + core as usize]
 }
@@ -615,7 +616,7 @@ fn put_load<K: Sink>(
     loads: &[u32; 32],
     core: u32,
 ) -> Result<(), WriteFault>
-    requires { (core : ℕ) → core < MAX_CORES → slice_index loads.now core ≡ load_of slots.now core }
+    requires { (core : ℕ) → core < MAX_CORES → slice_index loads.now core ≡ load_of_core slots.now core }
     ensures { Writes (K.state sink.old) (K.state sink.new) (load_data slots.now core) result }
 {
     let load = if core < MAX_CORES {

@@ -1,17 +1,17 @@
 ghost use Rattle.std.specs.Prelude.{◌≡◌, ◌<◌, ◌*◌, ◌==◌, IfSome, length, min};
 ghost use Rattle.tab_io.specs.Sinks.{Writes};
 ghost use Rattle.tab_words.specs.Texts.{texts_below};
-ghost use Rattle.table_cells.specs.Cells.{count_cell, millis_cell, percent_cell};
-ghost use Rattle.view_table.specs.Diff.{change_line, changes, count_change, count_line, diff_text, home_change, is_shared_named, is_slot_named, load_change, load_line, load_lines, lone_line, new_lines, number_of, old_lines, period_change, same_slot, same_slots, same_use, share_change, slots_change, vcpu_word, wait_change, wait_word};
+ghost use Rattle.view_cells.specs.Cells.{count_cell, millis_cell, percent_cell};
+ghost use Rattle.view_table.specs.Diff.{changes, count_change, count_line, diff_text, difference_line, home_change, is_shared_named, is_slot_named, load_change, load_line, load_lines, lone_line, new_lines, number_of, old_lines, period_change, same_slot, same_slots, same_use, share_change, slots_change, vcpu_word, wait_change, wait_word};
 ghost use Rattle.view_table.specs.Figures.{AreFigures};
-ghost use Rattle.table_cells.specs.CellTexts.{cell_text};
+ghost use Rattle.view_cells.specs.CellTexts.{cell_text};
 ghost use Rattle.view_table.specs.Waits.{wait_of};
 
 use crate::figures::Figures;
 use crate::rows::{load_of, name_at, of_round, share_of};
 use tab_core::{Name, ROUND};
 use tab_io::{Sink, WriteFault, write_all};
-use table_cells::{Cell, put_cells};
+use view_cells::{Cell, put_cells};
 use view_doc::{Stretch, Task, Use, View};
 
 /// Writes what differs between two plans, whose figures these are, for a tick of so many nanoseconds: a
@@ -293,7 +293,7 @@ pub(crate) fn put_wait<K: Sink>(
 }
 
 // Writes that something of a vCPU or of a VM was one thing and is another.
-#[tactic(auto, unfolding(crate::specs::Diff::change_line))]
+#[tactic(auto, unfolding(crate::specs::Diff::difference_line))]
 pub(crate) fn put_change<'a, K: Sink>(
     sink: &mut K,
     kind: &'a [u8],
@@ -304,7 +304,7 @@ pub(crate) fn put_change<'a, K: Sink>(
     unit: &'a [u8],
 ) -> Result<(), WriteFault>
     ensures { Writes (K.state sink.old) (K.state sink.new)
-        (change_line kind.now name.now what.now (cell_text old.now) (cell_text new.now) unit.now) result }
+        (difference_line kind.now name.now what.now (cell_text old.now) (cell_text new.now) unit.now) result }
 {
     put_cells(
         sink,

@@ -2,7 +2,7 @@ ghost use Rattle.std.specs.Prelude.{◌≡◌, ◌<◌, ◌≤◌, ◌++◌, IfS
 ghost use Rattle.tab_core.specs.declared.TheConstants.{MAX_VCPUS};
 ghost use Rattle.tab_io.specs.Sinks.{Writes};
 ghost use Rattle.tab_words.specs.Texts.{texts_below};
-ghost use Rattle.view_table.specs.Data.{comma_before};
+ghost use Rattle.view_cells.specs.CellTexts.{comma_before};
 ghost use Rattle.view_table.specs.DiffData.{added_row, both_rows, csv_name, csv_side, diff_csv, diff_head, diff_json, json_name, json_side, new_loads, new_part, new_row, no_side, old_loads, old_part, old_row, row_begin, row_end, row_middle, side_in, side_of, side_text, slots_end, slots_part};
 ghost use Rattle.view_table.specs.Figures.{AreFigures};
 ghost use Rattle.view_table.specs.Waits.{wait_of};

@@ -4,9 +4,9 @@ ghost use Rattle.tab_io.specs.Sinks.{Writes};
 ghost use Rattle.tab_words.specs.Texts.{texts_below};
 ghost use Rattle.vcpu_names.specs.Names.{name_at};
 ghost use Rattle.view_table.specs.Figures.{AreFigures};
-ghost use Rattle.view_table.specs.Groups.{all_kept_cell, any_below, asked_at, count_where, is_broken, is_broken_by, is_of, least_cell, least_in, lesser, most_in, ppm_of, share_in, sum_cell, sum_in, vm_breaks, vm_core, vm_figures, vm_head, vm_line, vm_of, vm_row, vm_stands};
+ghost use Rattle.view_table.specs.Groups.{all_kept_cell, any_below, asked_at, asked_ppm, count_where, is_broken, is_broken_by, is_of_vm, least_in, least_latency_cell, lesser, most_in, named_vm_row, share_in, sum_cell, sum_in, vm_breaks, vm_core, vm_figures, vm_head, vm_of, vm_row, vm_stands};
 ghost use Rattle.view_table.specs.TableTexts.{vm_table_of, vm_table_text};
-ghost use Rattle.table_cells.specs.CellTexts.{cell_text};
+ghost use Rattle.view_cells.specs.CellTexts.{cell_text};
 ghost use Rattle.view_table.specs.Waits.{wait_of};
 
 use crate::diff::figure_of;
@@ -16,7 +16,7 @@ use crate::totals::put_end;
 use tab_core::{MAX_CORES, Name, Reservation, Vcpu};
 use tab_io::{Sink, WriteFault, write_all};
 use tab_words::put_numbered;
-use table_cells::{Cell, put_cells, put_left, yes_or_no};
+use view_cells::{Cell, put_cells, put_left, yes_or_no};
 use view_doc::View;
 
 /// Writes the tables of a plan by virtual machine: a row for each VM, which is the part of its vCPUs'
@@ -132,7 +132,7 @@ fn put_vm_line<K: Sink>(
     requires few { view.now.cores ≤ MAX_CORES }
     requires vcpus { length view.now.tasks.items ≤ MAX_VCPUS }
     ensures { Writes (K.state sink.old) (K.state sink.new)
-        (vm_line (option_copied host.entry) tick_ns width view.now.names.items view.now.tasks.items view.now.slots.items view.now.cores vm.now)
+        (named_vm_row (option_copied host.entry) tick_ns width view.now.names.items view.now.tasks.items view.now.slots.items view.now.cores vm.now)
         result }
 {
     put_figures(sink, host, view, figures, tick_ns, width, vm)?;
@@ -239,7 +239,7 @@ fn sum_cell(promised: Option<u64>, share: u64) -> Cell<'static>
 
 // The least latency that was promised.
 fn least_cell(promised: Option<u64>) -> Cell<'static>
-    ensures { cell_text result ≡ least_cell promised }
+    ensures { cell_text result ≡ least_latency_cell promised }
 {
     match promised {
         Some(ns) => Cell::Millis(9, ns),
@@ -285,14 +285,14 @@ pub(crate) fn vm_at(names: &[Name], vcpu: usize) -> &[u8]
 }
 
 pub(crate) fn is_of(view: &View, vm: &[u8], vcpu: usize) -> bool
-    ensures { result ≡ is_of view.now.names.items vm.now vcpu }
+    ensures { result ≡ is_of_vm view.now.names.items vm.now vcpu }
 {
     vm_at(&view.names, vcpu) == vm
 }
 
 // Whether a vCPU below the number is of the VM.
 pub(crate) fn has_vm(view: &View, vm: &[u8], count: usize) -> bool
-    ensures { result ≡ any_below (is_of view.now.names.items vm.now) count }
+    ensures { result ≡ any_below (is_of_vm view.now.names.items vm.now) count }
 {
     let mut found = false;
     for vcpu in 0..count {
@@ -306,7 +306,7 @@ pub(crate) fn has_vm(view: &View, vm: &[u8], count: usize) -> bool
 // How many vCPUs the VM has.
 pub(crate) fn count_in(view: &View, vm: &[u8]) -> u64
     requires { length view.now.tasks.items ≤ MAX_VCPUS }
-    ensures { result ≡ count_where (is_of view.now.names.items vm.now) (length view.now.tasks.items) }
+    ensures { result ≡ count_where (is_of_vm view.now.names.items vm.now) (length view.now.tasks.items) }
 {
     let mut count = 0;
     for vcpu in 0..view.tasks.len() {
@@ -343,7 +343,7 @@ pub(crate) fn share_at(view: &View, vcpu: usize) -> u64
 // The shares that the VM's vCPUs asked for together.
 fn asked_in(view: &View, vcpus: &[Vcpu], vm: &[u8]) -> u64
     requires { length view.now.tasks.items ≤ MAX_VCPUS }
-    ensures { result ≡ sum_in (λ v. ppm_of (asked_at vcpus.now view.now.names.items v)) view.now.names.items
+    ensures { result ≡ sum_in (λ v. asked_ppm (asked_at vcpus.now view.now.names.items v)) view.now.names.items
         vm.now (length view.now.tasks.items) }
 {
     let mut share = 0;
@@ -356,7 +356,7 @@ fn asked_in(view: &View, vcpus: &[Vcpu], vm: &[u8]) -> u64
 }
 
 pub(crate) fn ppm_at(view: &View, vcpus: &[Vcpu], vcpu: usize) -> u64
-    ensures value { result ≡ ppm_of (asked_at vcpus.now view.now.names.items vcpu) }
+    ensures value { result ≡ asked_ppm (asked_at vcpus.now view.now.names.items vcpu) }
     ensures small { result < 2 ^ 32 }
 {
     match asked_at(view, vcpus, vcpu) {

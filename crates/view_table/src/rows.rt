@@ -1,19 +1,19 @@
 ghost use Rattle.std.specs.Prelude.{◌<◌, ◌^◌, ◌≡◌, ◌*◌, ◌-◌, ℕ, slice_index};
 ghost use Rattle.tab_core.specs.declared.TheConstants.{MAX_CORES, ROUND};
-ghost use Rattle.table_cells.specs.Cells.{count_cell, millis_cell, width_below};
-ghost use Rattle.table_cells.specs.CellTexts.{cell_text};
-ghost use Rattle.view_table.specs.Loads.{is_slot, load_of, ticks_on};
-ghost use Rattle.view_table.specs.Table.{asked_cell, asked_of, is_kept, kept_cell, of_round, promised_cell, share_of, wait_cell};
+ghost use Rattle.view_cells.specs.Cells.{count_cell, millis_cell, width_below};
+ghost use Rattle.view_cells.specs.CellTexts.{cell_text};
+ghost use Rattle.view_table.specs.Loads.{is_slot, load_of_core, ticks_on};
+ghost use Rattle.view_table.specs.Table.{asked_cell, asked_of, is_promise_kept, kept_cell, of_round, promised_cell, task_share, wait_cell};
 ghost use Rattle.vcpu_names.specs.Names.{name_at};
 
 use tab_core::{Name, ROUND, Reservation, Vcpu, WHOLE_PPM};
-use table_cells::{Cell, yes_or_no};
+use view_cells::{Cell, yes_or_no};
 use view_doc::{Stretch, Task, Use};
 
 // A cost in each period as parts per million of a core.
 #[tactic(auto, using(crate::proofs::TableLemmas::small_share))]
 pub(crate) fn share_of(task: &Task) -> u64
-    ensures value { result ≡ share_of task.now }
+    ensures value { result ≡ task_share task.now }
     ensures small { result < 2 ^ 52 }
 {
     if task.period == 0 {
@@ -51,7 +51,7 @@ pub(crate) fn asked_of(vcpus: &[Vcpu], name: &[u8]) -> Option<Reservation>
 
 // The load of each core, by one pass over the slots.
 pub(crate) fn loads_of(slots: &[Stretch]) -> [u32; 32]
-    ensures { (core : ℕ) → core < MAX_CORES → slice_index result core ≡ load_of slots.now core }
+    ensures { (core : ℕ) → core < MAX_CORES → slice_index result core ≡ load_of_core slots.now core }
 {
     let mut loads = [0u32; 32];
     for slot in slots {
@@ -65,7 +65,7 @@ pub(crate) fn loads_of(slots: &[Stretch]) -> [u32; 32]
 
 // The load of a core.
 pub(crate) fn load_of(slots: &[Stretch], core: u32) -> u32
-    ensures { result ≡ load_of slots.now core }
+    ensures { result ≡ load_of_core slots.now core }
 {
     let mut load = 0u32;
     for slot in slots {
@@ -174,7 +174,7 @@ pub(crate) fn kept_cell(
 
 // Whether the share and the wait are as was promised.
 pub(crate) fn is_kept(tick_ns: u32, r: &Reservation, share: u64, wait: u32) -> bool
-    ensures { result ≡ is_kept tick_ns r.now share wait }
+    ensures { result ≡ is_promise_kept tick_ns r.now share wait }
 {
     u64::from(r.share_ppm) <= share
         && wait < 2 * ROUND

@@ -9,7 +9,7 @@ use crate::figures::Figures;
 use crate::groups::{has_vm, is_of, share_at, vm_at};
 use crate::rows::name_at;
 use tab_io::{Sink, WriteFault};
-use table_cells::{Cell, put_cells};
+use view_cells::{Cell, put_cells};
 use view_doc::View;
 
 // What of a vCPU may be another in another plan.

@@ -3,8 +3,8 @@ ghost use Rattle.tab_core.specs.declared.TheConstants.{MAX_CORES, MAX_VCPUS};
 ghost use Rattle.tab_io.specs.Sinks.{Writes};
 ghost use Rattle.tab_words.specs.Texts.{texts_below};
 ghost use Rattle.view_table.specs.Figures.{AreFigures};
-ghost use Rattle.view_table.specs.Loads.{load_of};
-ghost use Rattle.view_table.specs.Table.{asked_cells, core_cells, core_head, core_row, core_word, core_words, head_text, plain_cells, row_cells, vcpu_row};
+ghost use Rattle.view_table.specs.Loads.{load_of_core};
+ghost use Rattle.view_table.specs.Table.{asked_cells, core_cells, core_head, core_row, core_word, cores_cell, plain_cells, row_cells, table_head, table_row};
 ghost use Rattle.view_table.specs.TableTexts.{table_of, table_text};
 
 use crate::figures::Figures;
@@ -16,7 +16,7 @@ use crate::totals::put_end;
 use tab_core::{MAX_CORES, Reservation, Vcpu};
 use tab_io::{Sink, WriteFault, write_all};
 use tab_words::put_numbered;
-use table_cells::{Cell, put_cells, put_left};
+use view_cells::{Cell, put_cells, put_left};
 use view_doc::{Stretch, Task, View};
 
 /// Writes the tables of a plan, whose figures these are, for a tick of so many nanoseconds.
@@ -68,7 +68,7 @@ fn put_table<K: Sink>(
 
 // Writes the names of the columns after the first.
 fn put_head<K: Sink>(sink: &mut K, host: &Option<&[Vcpu]>) -> Result<(), WriteFault>
-    ensures { Writes (K.state sink.old) (K.state sink.new) (head_text (option_copied host.now)) result }
+    ensures { Writes (K.state sink.old) (K.state sink.new) (table_head (option_copied host.now)) result }
 {
     match host {
         None => write_all(sink, b"   share %  period ms    wait ms  cores\n"),
@@ -97,7 +97,7 @@ fn put_vcpus<K: Sink>(
     requires figures { AreFigures view.now figures.now }
     requires few { view.now.cores ≤ MAX_CORES }
     ensures { Writes (K.state sink.old) (K.state sink.new)
-        (texts_below (vcpu_row (option_copied host.entry) tick_ns width view.now.names.items
+        (texts_below (table_row (option_copied host.entry) tick_ns width view.now.names.items
         view.now.tasks.items view.now.slots.items view.now.cores) (length view.now.tasks.items)) result }
 {
     for vcpu in 0..view.tasks.len() {
@@ -120,7 +120,7 @@ fn put_vcpu<K: Sink>(
     requires few { view.now.cores ≤ MAX_CORES }
     requires low { vcpu < length view.now.tasks.items }
     ensures { Writes (K.state sink.old) (K.state sink.new)
-        (vcpu_row (option_copied host.entry) tick_ns width view.now.names.items view.now.tasks.items
+        (table_row (option_copied host.entry) tick_ns width view.now.names.items view.now.tasks.items
         view.now.slots.items view.now.cores vcpu) result }
 {
     let name = name_at(&view.names, vcpu);
@@ -212,7 +212,7 @@ fn put_core_words<K: Sink>(
     requires few { view.now.cores ≤ MAX_CORES }
     requires low { vcpu < length view.now.tasks.items }
     ensures { Writes (K.state sink.old) (K.state sink.new)
-        (core_words view.now.slots.items view.now.cores vcpu) result }
+        (cores_cell view.now.slots.items view.now.cores vcpu) result }
 {
     write_all(sink, b" ")?;
     put_stands(sink, view, figures, vcpu)?;
@@ -276,7 +276,7 @@ fn put_core<K: Sink>(
     loads: &[u32; 32],
     core: u32,
 ) -> Result<(), WriteFault>
-    requires { (core : ℕ) → core < MAX_CORES → slice_index loads.now core ≡ load_of slots.now core }
+    requires { (core : ℕ) → core < MAX_CORES → slice_index loads.now core ≡ load_of_core slots.now core }
     ensures { Writes (K.state sink.old) (K.state sink.new) (core_row slots.now core) result }
 {
     let load = if core < MAX_CORES {

@@ -4,7 +4,7 @@ ghost use Rattle.tab_io.specs.Sinks.{Writes};
 ghost use Rattle.view_table.specs.Figures.{AreFigures};
 ghost use Rattle.view_table.specs.Groups.{count_where};
 ghost use Rattle.view_table.specs.TableTexts.{end_text};
-ghost use Rattle.view_table.specs.Totals.{asked_below, asked_total, busy_below, full_of, given_below, has_all, is_admitted, plain_total, total_text};
+ghost use Rattle.view_table.specs.Totals.{asked_below, asked_total, busy_below, full_of, given_below, has_all, is_share_asked, plain_total, total_text};
 
 use crate::figures::Figures;
 use crate::groups::{asked_at, is_broken, ppm_at, share_at};
@@ -12,7 +12,7 @@ use crate::rows::loads_of;
 use crate::table::{put_core_head, put_cores};
 use tab_core::{ROUND, Vcpu, WHOLE_PPM};
 use tab_io::{Sink, WriteFault};
-use table_cells::{Cell, put_cells};
+use view_cells::{Cell, put_cells};
 use view_doc::View;
 
 // Writes what is after the rows of vCPUs or of VMs.
@@ -93,7 +93,7 @@ fn put_asked_total<K: Sink>(
     ensures { Writes (K.state sink.old) (K.state sink.new)
         (asked_total (length view.now.tasks.items) (asked_below vcpus.now view.now.names.items
         (length view.now.tasks.items)) given full (count_where (has_all tick_ns vcpus.now view.now.names.items
-        view.now.tasks.items view.now.slots.items) (length view.now.tasks.items)) (count_where (is_admitted
+        view.now.tasks.items view.now.slots.items) (length view.now.tasks.items)) (count_where (is_share_asked
         vcpus.now view.now.names.items) (length view.now.tasks.items))) result }
 {
     let asked = asked_below(view, vcpus);
@@ -148,7 +148,7 @@ fn asked_below(view: &View, vcpus: &[Vcpu]) -> u64
 // How many of them the host admits.
 fn admitted_below(view: &View, vcpus: &[Vcpu]) -> u64
     requires { length view.now.tasks.items ≤ MAX_VCPUS }
-    ensures { result ≡ count_where (is_admitted vcpus.now view.now.names.items)
+    ensures { result ≡ count_where (is_share_asked vcpus.now view.now.names.items)
         (length view.now.tasks.items) }
 {
     let mut count = 0;
@@ -161,7 +161,7 @@ fn admitted_below(view: &View, vcpus: &[Vcpu]) -> u64
 }
 
 fn is_admitted(view: &View, vcpus: &[Vcpu], vcpu: usize) -> bool
-    ensures { result ≡ is_admitted vcpus.now view.now.names.items vcpu }
+    ensures { result ≡ is_share_asked vcpus.now view.now.names.items vcpu }
 {
     match asked_at(view, vcpus, vcpu) {
         Some(_) => true,

@@ -12,7 +12,7 @@ use crate::figures::Figures;
 use crate::groups::{count_in, has_vm, share_in, vm_at, wait_in};
 use crate::sums::{Matter, changes_there, is_first};
 use tab_io::{Sink, WriteFault};
-use table_cells::{Cell, put_cells};
+use view_cells::{Cell, put_cells};
 use view_doc::View;
 
 /// Writes what differs between two plans by virtual machine, whose figures these are, for a tick of so many

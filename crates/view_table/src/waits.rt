@@ -1,8 +1,8 @@
 ghost use Rattle.std.specs.Prelude.{◌≡◌, ℕ, ◌+◌, ◌*◌, ◌-◌, ◌<◌, ◌≤◌, Bool, IfOk, List, [], length, max, slice_index};
 ghost use Rattle.tab_core.specs.declared.TheConstants.{MAX_VCPUS, ROUND};
 ghost use Rattle.view_doc.specs.declared.view.Stretch.{Stretch as StretchValue};
-ghost use Rattle.view_table.specs.Figures.{AreMarks, AreWaits};
-ghost use Rattle.view_table.specs.Inside.Walks.{AreByBegin, IsWalked, Rise, last_mark, next_end, next_mark, next_wait};
+ghost use Rattle.view_table.specs.Figures.{AreWaitMarks, AreWaits};
+ghost use Rattle.view_table.specs.Inside.Walks.{AreByBegin, IsWalked, SegmentsRise, last_mark, next_end, next_mark, next_wait};
 ghost use Rattle.view_table.specs.Waits.{EndsAt, wait_of};
 
 use std::alloc::Global;
@@ -18,7 +18,7 @@ pub(crate) fn waits_of(
 ) -> Result<(Vec<u32>, Vec<u32>), NoMemory>
     requires { count ≤ MAX_VCPUS }
     ensures waits { IfOk result (λ pair. AreWaits slots.now count pair.0.items) }
-    ensures marks { IfOk result (λ pair. AreMarks slots.now count pair.1.items) }
+    ensures marks { IfOk result (λ pair. AreWaitMarks slots.now count pair.1.items) }
 {
     let order = by_begin(alloc, slots)?;
     let mut ends = vec![in alloc; 0u32; count]?;
@@ -44,7 +44,7 @@ fn by_begin(alloc: Global, slots: &[Stretch]) -> Result<Vec<Stretch>, NoMemory>
 fn walk_rounds(order: &[Stretch], ends: &mut [u32], waits: &mut [u32], marks: &mut [u32])
     requires sizes { length waits.old ≡ length ends.old }
     requires places { length marks.old ≡ length ends.old }
-    requires rise { Rise order.now }
+    requires rise { SegmentsRise order.now }
     requires begins { (v : ℕ) → v < length ends.old → slice_index ends.old v ≡ 0 }
     requires fresh { (v : ℕ) → v < length ends.old → slice_index waits.old v ≡ 0 }
     requires unset { (v : ℕ) → v < length ends.old → slice_index marks.old v ≡ 0 }
@@ -65,7 +65,7 @@ fn walk_rounds(order: &[Stretch], ends: &mut [u32], waits: &mut [u32], marks: &m
 // slots so far end, `waits` its longest wait up to there, and `marks` where such a wait ends.
 fn walk_round(order: &[Stretch], base: u32, ends: &mut [u32], waits: &mut [u32], marks: &mut [u32])
     requires few { base ≤ ROUND }
-    requires rise { Rise order.now }
+    requires rise { SegmentsRise order.now }
     requires sizes { length waits.old ≡ length ends.old }
     requires places { length marks.old ≡ length ends.old }
     ensures ends { length ends.new ≡ length ends.old }

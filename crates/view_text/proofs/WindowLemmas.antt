@@ -9,7 +9,7 @@ use Rattle.std.specs.Prelude.{◌==◌, if◌then◌else◌}
 use Rattle.view_lanes.specs.Columns.{edge_of, overlap, ticks_in, width_at}
 use Rattle.view_lanes.specs.declared.frame.Bar.{Bar}
 use Rattle.view_lanes.specs.declared.frame.Frame.{Frame}
-use Rattle.view_text.specs.Inside.Windows.{AreBefore, AreBehind, Rise}
+use Rattle.view_text.specs.Inside.Windows.{AreBefore, AreBehind, BarsRise}
 use Rattle.view_text.specs.TextCharts.{held_at, leader, letter_at, letter_by, letter_for, owned_at}
 use Rattle.view_text.proofs.LetterLemmas.{leader_same}
 
@@ -34,7 +34,7 @@ not_later end first edge next early is later = omega (arith, early, is, later)
 -- ---- windows
 
 -- bars that rise from each to the next rise from each to all after it
-pub rise_all : (bars : List Bar) (i n : ℕ) (d : Bar) → Rise bars → i + n < length bars
+pub rise_all : (bars : List Bar) (i n : ℕ) (d : Bar) → BarsRise bars → i + n < length bars
     → (get_or bars i d).from ≤ (get_or bars (i + n) d).from
 rise_all bars i zero d rise low = rw (same i) (omega arith)
   where
@@ -47,7 +47,7 @@ rise_all bars i (suc n) d rise low =
     subst (λ k. (get_or bars i d).from ≤ (get_or bars k d).from) place (omega (arith, rest, next))
 
 -- from a bar on that begins at a tick or later, none begins before it
-pub behind_all : (bars : List Bar) (stop tick : ℕ) → Rise bars → stop < length bars
+pub behind_all : (bars : List Bar) (stop tick : ℕ) → BarsRise bars → stop < length bars
     → ((d : Bar) → tick ≤ (get_or bars stop d).from) → AreBehind tick bars stop
 behind_all bars stop tick rise low first i d order within =
     let place : stop + (i - stop) ≡ i = omega (arith, order) in

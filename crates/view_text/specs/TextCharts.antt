@@ -6,9 +6,10 @@ use Rattle.tab_words.specs.Texts.{texts_below}
 use Rattle.vcpu_names.specs.Names.{name_at}
 use Rattle.view_doc.specs.declared.view.Stretch.{Stretch}
 use Rattle.view_doc.specs.declared.view.View.{View}
+use Rattle.view_doc.specs.Views.{shown_in}
 use Rattle.view_lanes.specs.Amounts.{per_mille}
-use Rattle.view_lanes.specs.Columns.{ticks_in, ticks_of, width_at}
-use Rattle.view_lanes.specs.Shown.{chart_lanes, cores_in, frame_of, held_in, shown_in}
+use Rattle.view_lanes.specs.Columns.{column_ticks, ticks_in, width_at}
+use Rattle.view_lanes.specs.Shown.{chart_lanes, cores_in, frame_of, held_in}
 use Rattle.view_lanes.specs.Titles.{head_of, plural, sub_text, title_text}
 use Rattle.view_lanes.specs.declared.frame.Bar.{Bar}
 use Rattle.view_lanes.specs.declared.frame.ChartOptions.{ChartOptions}
@@ -20,7 +21,7 @@ use Rattle.view_text.specs.declared.options.TextOptions.{TextOptions}
 
 -- how many ticks of the column of a number a vCPU has
 abbrev pub owned_at : Frame → ℕ → List Bar → ℕ → ℕ → ℕ
-owned_at f columns bars j v = ticks_of (λ w. w == v) f columns bars j
+owned_at f columns bars j v = column_ticks (λ w. w == v) f columns bars j
 
 -- how many ticks of the column of a number the vCPUs have together: at most as many as the column has
 abbrev pub held_at : Frame → ℕ → List Bar → ℕ → ℕ
@@ -71,20 +72,20 @@ unfoldable pub line_end : List ℕ → ℕ → List ℕ
 line_end gap share = gap ++ (decimal (share / 10) ++ (codes "." ++ (decimal (share % 10) ++ codes " %\n")))
 
 -- the line of a core: its number, its columns, and how much of its lane is somebody's
-abbrev pub line_of : Frame → ℕ → ℕ → ℕ → ℕ → List Bar → List ℕ
-line_of f columns vcpus core share bars = line_begin core (gap_behind core)
+abbrev pub lane_line : Frame → ℕ → ℕ → ℕ → ℕ → List Bar → List ℕ
+lane_line f columns vcpus core share bars = line_begin core (gap_behind core)
     ++ (texts_below (cell_at f columns vcpus bars) columns ++ line_end (gap_before share) share)
 
 -- the line of a number, of which the first is this core's
-abbrev pub line_at : Frame → ℕ → ℕ → ℕ → List (List Bar) → ℕ → List ℕ
-line_at f columns vcpus first lanes i = line_of f columns vcpus (first + i)
+abbrev pub lane_line_at : Frame → ℕ → ℕ → ℕ → List (List Bar) → ℕ → List ℕ
+lane_line_at f columns vcpus first lanes i = lane_line f columns vcpus (first + i)
     (per_mille (held_in f (slice_index_or lanes i [])) (f.to - f.from)) (slice_index_or lanes i [])
 
 -- ---- the text
 
 -- a name after a letter, and what is after the name
-unfoldable pub key_name : List ℕ → List ℕ → List ℕ
-key_name name gap = codes "=" ++ (name ++ gap)
+unfoldable pub letter_key_name : List ℕ → List ℕ → List ℕ
+letter_key_name name gap = codes "=" ++ (name ++ gap)
 
 -- what is after the name of a number: the end of the line after each eighth and the last, else a space
 abbrev pub key_gap : ℕ → ℕ → List ℕ
@@ -95,26 +96,26 @@ abbrev pub lettered : ℕ → ℕ
 lettered vcpus = min 52 vcpus
 
 -- the letter of the vCPU of a number, and its name
-abbrev pub key_at : List (List ℕ) → ℕ → List ℕ
-key_at names v = letter_of v ∷ key_name (name_at names v) (key_gap (lettered (length names)) v)
+abbrev pub letter_key_at : List (List ℕ) → ℕ → List ℕ
+letter_key_at names v = letter_of v ∷ letter_key_name (name_at names v) (key_gap (lettered (length names)) v)
 
 -- how many vCPUs have no letter of their own
 unfoldable pub more_line : ℕ → List ℕ → List ℕ
 more_line more many = codes "#=" ++ (decimal more ++ (codes " more vCPU" ++ (many ++ codes "\n")))
 
 -- how many vCPUs have no letter of their own, where there are some
-abbrev pub more_text : ℕ → List ℕ
-more_text vcpus = if nat_lt 52 vcpus then more_line (vcpus - 52) (plural (vcpus - 52)) else []
+abbrev pub more_vcpus_text : ℕ → List ℕ
+more_vcpus_text vcpus = if nat_lt 52 vcpus then more_line (vcpus - 52) (plural (vcpus - 52)) else []
 
 -- the title and the line below it
-abbrev pub head_lines : Head → List ℕ
-head_lines h = title_text h ++ (codes "\n" ++ (sub_text h ++ codes "\n"))
+abbrev pub title_lines : Head → List ℕ
+title_lines h = title_text h ++ (codes "\n" ++ (sub_text h ++ codes "\n"))
 
 -- the text of these lanes of these stretches
-abbrev pub text_of : Frame → List Stretch → ℕ → ℕ → ℕ → List (List ℕ) → List (List Bar) → List ℕ
-text_of f stretches columns first cores names lanes = head_lines (head_of f stretches cores (length names) lanes)
-    ++ (texts_below (line_at f columns (length names) first lanes) (length lanes)
-    ++ (texts_below (key_at names) (lettered (length names)) ++ more_text (length names)))
+abbrev pub lanes_text : Frame → List Stretch → ℕ → ℕ → ℕ → List (List ℕ) → List (List Bar) → List ℕ
+lanes_text f stretches columns first cores names lanes = title_lines (head_of f stretches cores (length names) lanes)
+    ++ (texts_below (lane_line_at f columns (length names) first lanes) (length lanes)
+    ++ (texts_below (letter_key_at names) (lettered (length names)) ++ more_vcpus_text (length names)))
 
 -- a text has the lanes and ticks of a picture by core
 abbrev pub by_core : TextOptions → ChartOptions
@@ -131,5 +132,5 @@ by_core options = record {
 
 -- the text of a view
 abbrev pub text_chart : TextOptions → View → List ℕ
-text_chart options view = text_of (frame_of view (by_core options)) (shown_in view) options.columns options.first
+text_chart options view = lanes_text (frame_of view (by_core options)) (shown_in view) options.columns options.first
     (cores_in view) view.names.items (chart_lanes view (by_core options))

@@ -7,7 +7,7 @@ ghost use Rattle.view_lanes.specs.Columns.{edge_of};
 ghost use Rattle.view_lanes.specs.Shown.{shows_nothing};
 ghost use Rattle.view_lanes.specs.Titles.{head_of, plural};
 ghost use Rattle.view_text.specs.Inside.Windows.{AreBefore, AreBehind};
-ghost use Rattle.view_text.specs.TextCharts.{by_core, cell_at, gap_before, gap_behind, head_lines, key_at, key_gap, key_name, letter_of, lettered, line_at, line_begin, line_end, line_of, more_line, more_text, text_chart, text_of};
+ghost use Rattle.view_text.specs.TextCharts.{by_core, cell_at, gap_before, gap_behind, key_gap, lane_line, lane_line_at, lanes_text, letter_key_at, letter_key_name, letter_of, lettered, line_begin, line_end, more_line, more_vcpus_text, text_chart, title_lines};
 ghost use Rattle.view_lanes.specs.declared.fault.ChartFault.TheVariants as fault;
 
 use crate::letters::{letter_at, letter_of};
@@ -106,7 +106,7 @@ fn put_text<K: Sink>(
     requires some { 0 < columns }
     requires few { columns ≤ 8000 }
     ensures { Writes (K.state sink.old) (K.state sink.new)
-        (text_of frame.now stretches.now columns first cores names.now lanes.now) result }
+        (lanes_text frame.now stretches.now columns first cores names.now lanes.now) result }
 {
     put_text_head(sink, frame, stretches, cores, names, lanes)?;
     put_lines(sink, frame, columns, names.len(), first, lanes)?;
@@ -124,14 +124,14 @@ fn put_text_head<K: Sink>(
 ) -> Result<(), WriteFault>
     requires { length lanes.now ≤ MAX_VCPUS }
     ensures { Writes (K.state sink.old) (K.state sink.new)
-        (head_lines (head_of frame.now stretches.now cores (length names.now) lanes.now)) result }
+        (title_lines (head_of frame.now stretches.now cores (length names.now) lanes.now)) result }
 {
     let head = head_of(frame, stretches, cores, names.len() as u64, lanes);
     put_head_lines(sink, &head)
 }
 
 fn put_head_lines<K: Sink>(sink: &mut K, head: &Head) -> Result<(), WriteFault>
-    ensures { Writes (K.state sink.old) (K.state sink.new) (head_lines head.now) result }
+    ensures { Writes (K.state sink.old) (K.state sink.new) (title_lines head.now) result }
 {
     put_title(sink, head)?;
     write_all(sink, b"\n")?;
@@ -153,7 +153,7 @@ fn put_lines<K: Sink>(
     requires some { 0 < columns }
     requires few { columns ≤ 8000 }
     ensures { Writes (K.state sink.old) (K.state sink.new)
-        (texts_below (line_at frame.now columns vcpus first lanes.now) (length lanes.now)) result }
+        (texts_below (lane_line_at frame.now columns vcpus first lanes.now) (length lanes.now)) result }
 {
     for i in 0..lanes.len() {
         put_line_at(sink, frame, columns, vcpus, first, lanes, i)?;
@@ -176,7 +176,7 @@ fn put_line_at<K: Sink>(
     requires some { 0 < columns }
     requires few { columns ≤ 8000 }
     ensures { Writes (K.state sink.old) (K.state sink.new)
-        (line_at frame.now columns vcpus first lanes.now i) result }
+        (lane_line_at frame.now columns vcpus first lanes.now i) result }
 {
     let bars = lanes[i].bars();
     let core = u64::from(first) + i as u64;
@@ -198,7 +198,7 @@ fn put_line_of<K: Sink>(
     requires some { 0 < columns }
     requires few { columns ≤ 8000 }
     ensures { Writes (K.state sink.old) (K.state sink.new)
-        (line_of frame.now columns vcpus core share bars.now) result }
+        (lane_line frame.now columns vcpus core share bars.now) result }
 {
     put_line_begin(sink, core)?;
     put_cells(sink, frame, columns, vcpus, bars)?;
@@ -319,7 +319,7 @@ fn put_cell<K: Sink>(
 // Writes the vCPUs' letters.
 fn put_keys<K: Sink>(sink: &mut K, names: &[Name]) -> Result<(), WriteFault>
     ensures { Writes (K.state sink.old) (K.state sink.new)
-        (texts_below (key_at names.now) (lettered (length names.now))) result }
+        (texts_below (letter_key_at names.now) (lettered (length names.now))) result }
 {
     for v in 0..lettered(names.len()) {
         put_key_at(sink, names, v)?;
@@ -336,7 +336,7 @@ fn lettered(vcpus: usize) -> usize
 
 // Writes how many of so many vCPUs have no letter of their own, if some have none.
 fn put_more<K: Sink>(sink: &mut K, vcpus: usize) -> Result<(), WriteFault>
-    ensures { Writes (K.state sink.old) (K.state sink.new) (more_text vcpus) result }
+    ensures { Writes (K.state sink.old) (K.state sink.new) (more_vcpus_text vcpus) result }
 {
     if vcpus > 52 {
         put_more_line(sink, (vcpus - 52) as u64)
@@ -376,7 +376,7 @@ fn plural(n: u64) -> &'static [u8]
 
 fn put_key_at<K: Sink>(sink: &mut K, names: &[Name], v: usize) -> Result<(), WriteFault>
     requires { v < lettered (length names.now) }
-    ensures { Writes (K.state sink.old) (K.state sink.new) (key_at names.now v) result }
+    ensures { Writes (K.state sink.old) (K.state sink.new) (letter_key_at names.now v) result }
 {
     put_letter(sink, v)?;
     put_key_name(sink, names, v)
@@ -391,7 +391,7 @@ fn put_letter<K: Sink>(sink: &mut K, v: usize) -> Result<(), WriteFault>
 fn put_key_name<K: Sink>(sink: &mut K, names: &[Name], v: usize) -> Result<(), WriteFault>
     requires { v < lettered (length names.now) }
     ensures { Writes (K.state sink.old) (K.state sink.new)
-        (key_name (name_of names.now v) (key_gap (lettered (length names.now)) v)) result }
+        (letter_key_name (name_of names.now v) (key_gap (lettered (length names.now)) v)) result }
 {
     put_named(sink, name_at(names, v), key_gap(lettered(names.len()), v))
 }
@@ -408,9 +408,9 @@ fn key_gap(vcpus: usize, v: usize) -> &'static [u8]
     }
 }
 
-#[tactic(auto, unfolding(crate::specs::TextCharts::key_name))]
+#[tactic(auto, unfolding(crate::specs::TextCharts::letter_key_name))]
 fn put_named<'a, K: Sink>(sink: &mut K, name: &'a [u8], gap: &'a [u8]) -> Result<(), WriteFault>
-    ensures { Writes (K.state sink.old) (K.state sink.new) (key_name name.now gap.now) result }
+    ensures { Writes (K.state sink.old) (K.state sink.new) (letter_key_name name.now gap.now) result }
 {
     put_pieces(
         sink,

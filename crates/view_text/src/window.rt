@@ -1,11 +1,11 @@
 ghost use Rattle.std.specs.Prelude.{◌≡◌, ◌<◌, ◌≤◌, length, true};
-ghost use Rattle.view_text.specs.Inside.Windows.{AreBefore, AreBehind, Rise};
+ghost use Rattle.view_text.specs.Inside.Windows.{AreBefore, AreBehind, BarsRise};
 
 use view_lanes::Bar;
 
 // Whether no bar begins before the one before it.
 pub(crate) fn rise(bars: &[Bar]) -> bool
-    ensures { result ≡ true → Rise bars.now }
+    ensures { result ≡ true → BarsRise bars.now }
 {
     for i in 1..bars.len() {
         if bars[i].from < bars[i - 1].from {
@@ -32,7 +32,7 @@ pub(crate) fn first_from(bars: &[Bar], known: usize, tick: u64) -> usize
 // Where bars begin that have nothing before a tick, from a place on.
 pub(crate) fn first_behind(bars: &[Bar], rise: bool, start: usize, tick: u64) -> usize
     requires within { start ≤ length bars.now }
-    requires rise { rise ≡ true → Rise bars.now }
+    requires rise { rise ≡ true → BarsRise bars.now }
     ensures order { start ≤ result }
     ensures within { result ≤ length bars.now }
     ensures behind { AreBehind tick bars.now result }

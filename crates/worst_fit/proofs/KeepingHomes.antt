@@ -16,7 +16,7 @@ use Rattle.worst_fit.specs.declared.by_demand.ByDemand.{ByDemand}
 use Rattle.worst_fit.specs.Load.{is_on, load_on}
 use Rattle.worst_fit.specs.Order.{IsFallingOrder, ranks_from}
 use Rattle.worst_fit.specs.Placement.{IsStayingPlacement, Staying, nothing_placed, stay_all, stay_next, who_stays}
-use Rattle.worst_fit.specs.Staying.{LeaveForNeed, StayWhereAllFit, demand_at}
+use Rattle.worst_fit.specs.Staying.{LeaveForNeed, StayWhereAllFit, staying_demand}
 use Rattle.worst_fit.proofs.Counts.{has, one_if, same-zero, turns, turns-cons, turns-nil, turns-permutation, turns_from}
 use Rattle.worst_fit.proofs.LoadLemmas.{load_on-cons, load_on-nil, share_on}
 use Rattle.worst_fit.proofs.OrderLemmas.{rank_of, ranks_from-nil, ranks_from-none, ranks_from-some}
@@ -29,26 +29,26 @@ share_at homes core rank = if is_on core (get_or homes rank.vcpu None) then rank
 
 -- opens the demand by one rank
 demand_at-cons : (homes : List (Option ℕ)) (core : ℕ) (rank : ByDemand) (ranks : List ByDemand)
-    → demand_at homes core (rank ∷ ranks) ≡ share_at homes core rank + demand_at homes core ranks
-unfolding demand_at
+    → staying_demand homes core (rank ∷ ranks) ≡ share_at homes core rank + staying_demand homes core ranks
+unfolding staying_demand
 demand_at-cons homes core rank ranks = sum_by-cons (share_at homes core) rank ranks
 
 -- no rank, no demand
-demand_at-nil : (homes : List (Option ℕ)) (core : ℕ) → demand_at homes core [] ≡ 0
-unfolding demand_at
+demand_at-nil : (homes : List (Option ℕ)) (core : ℕ) → staying_demand homes core [] ≡ 0
+unfolding staying_demand
 demand_at-nil homes core = refl
 
 -- of two lists the demands are added
 demand_at-append : (homes : List (Option ℕ)) (core : ℕ) (a b : List ByDemand)
-    → demand_at homes core (a ++ b) ≡ demand_at homes core a + demand_at homes core b
-unfolding demand_at
+    → staying_demand homes core (a ++ b) ≡ staying_demand homes core a + staying_demand homes core b
+unfolding staying_demand
 demand_at-append homes core a b = sum_by-append (share_at homes core) a b
 
 -- another order has the same demand
 demand_at-order : (homes : List (Option ℕ)) (core : ℕ) (tasks : List (Option Periodic))
     (order : List ByDemand) → IsFallingOrder tasks order
-    → demand_at homes core order ≡ demand_at homes core (ranks_from 0 tasks)
-unfolding demand_at
+    → staying_demand homes core order ≡ staying_demand homes core (ranks_from 0 tasks)
+unfolding staying_demand
 demand_at-order homes core tasks order falling_order =
     sum_by-IsPermutation (share_at homes core) (ranks_from 0 tasks) order falling_order.admitted
 
@@ -117,7 +117,7 @@ stays_or_overloads : (homes : List (Option ℕ)) (tasks : List (Option Periodic)
     → StayingInvariant tasks cores (before ++ rank ∷ after) s
     → get_or s.placed.loads core 0 ≤ taken
     → (get_or (stay_all homes s (before ++ rank ∷ after)).placed.core_of rank.vcpu None ≡ Some core)
-    ⊎ (ROUND < taken + demand_at homes core (before ++ rank ∷ []))
+    ⊎ (ROUND < taken + staying_demand homes core (before ++ rank ∷ []))
 stays_or_overloads homes tasks cores taken [] after rank core s there at ranked kept low =
     let cores_are = kept.placing.cores_are in
     let head = All-head (IsRankIn tasks) rank after ranked in
@@ -162,7 +162,7 @@ stays_or_leaves : (homes : List (Option ℕ)) (tasks : List (Option Periodic)) (
     → (is : IsStayingPlacement homes tasks cores placed) → is.order ≡ before ++ rank ∷ after
     → get_or homes rank.vcpu None ≡ Some core → core < cores
     → (slice_get placed.core_of rank.vcpu ≡ Some (Some core))
-    ⊎ (ROUND < demand_at homes core (before ++ rank ∷ []))
+    ⊎ (ROUND < staying_demand homes core (before ++ rank ∷ []))
 stays_or_leaves homes tasks cores placed before after rank core some is split at there =
     let order = is.order in
     let begin : Staying = record { placed = nothing_placed cores (length tasks); moving = [] } in
@@ -209,21 +209,21 @@ load_on-short core (task ∷ tasks) = refl
 -- the first task's rank adds its share
 first_rank : (homes : List (Option ℕ)) (core number : ℕ) (task : Option Periodic)
     (tasks : List (Option Periodic))
-    → demand_at homes core (ranks_from number (task ∷ tasks))
-    ≡ share_on core task (get_or homes number None) + demand_at homes core (ranks_from (number + 1) tasks)
+    → staying_demand homes core (ranks_from number (task ∷ tasks))
+    ≡ share_on core task (get_or homes number None) + staying_demand homes core (ranks_from (number + 1) tasks)
 first_rank homes core number None tasks =
-    let skip = ap (demand_at homes core) (ranks_from-none number tasks) in
+    let skip = ap (staying_demand homes core) (ranks_from-none number tasks) in
     let none = nothing_of (is_on core (get_or homes number None)) in
     omega arith
 first_rank homes core number (Some task) tasks =
-    ap (demand_at homes core) (ranks_from-some number task tasks)
+    ap (staying_demand homes core) (ranks_from-some number task tasks)
     ∙ demand_at-cons homes core (rank_of number task) (ranks_from (number + 1) tasks)
 
 -- without an old home it adds nothing
 first_without : (homes : List (Option ℕ)) (core number : ℕ) (task : Option Periodic)
     (tasks : List (Option Periodic)) → get_or homes number None ≡ None
-    → demand_at homes core (ranks_from number (task ∷ tasks))
-    ≡ demand_at homes core (ranks_from (number + 1) tasks)
+    → staying_demand homes core (ranks_from number (task ∷ tasks))
+    ≡ staying_demand homes core (ranks_from (number + 1) tasks)
 first_without homes core number task tasks none =
     let first = first_rank homes core number task tasks in
     let share = ap (share_on core task) none in
@@ -231,9 +231,9 @@ first_without homes core number task tasks none =
 
 -- the demand at a core is the load that the old homes would give it
 demand_at-ranks : (homes : List (Option ℕ)) (core number : ℕ) (tasks : List (Option Periodic))
-    → demand_at homes core (ranks_from number tasks) ≡ load_on core tasks (drop number homes)
+    → staying_demand homes core (ranks_from number tasks) ≡ load_on core tasks (drop number homes)
 demand_at-ranks homes core number [] =
-    ap (demand_at homes core) (ranks_from-nil number) ∙ demand_at-nil homes core
+    ap (staying_demand homes core) (ranks_from-nil number) ∙ demand_at-nil homes core
     ∙ sym (load_on-nil core (drop number homes))
 demand_at-ranks homes core number (task ∷ tasks) = elim (cases_lt number (length homes)) [
   | inr past ↦ (let nothing = drop_of_length-le homes {i = number} past in
@@ -299,7 +299,7 @@ placement_stays homes tasks cores placed some is = λ core there fits vcpu admit
       | inl stays ↦ sym (ap (slice_get placed.core_of) same) ∙ stays
       | inr over ↦ absurd (let all = demand_at-order homes core tasks order is.falling_order in
           let load = demand_at-ranks homes core 0 tasks in
-          let cut = ap (demand_at homes core) split in
+          let cut = ap (staying_demand homes core) split in
           let two = demand_at-append homes core before (rank ∷ after) in
           let three = demand_at-append homes core before (rank ∷ []) in
           let four = demand_at-cons homes core rank after in

@@ -10,8 +10,8 @@ use Rattle.worst_fit.specs.Placement.{IsAdmitted}
 use Rattle.worst_fit.specs.declared.by_demand.ByDemand.{ByDemand}
 
 -- what the vCPUs of these ranks whose old home is this core take of a round together
-unfoldable pub demand_at : List (Option ℕ) → ℕ → List ByDemand → ℕ
-demand_at homes core ranks =
+unfoldable pub staying_demand : List (Option ℕ) → ℕ → List ByDemand → ℕ
+staying_demand homes core ranks =
     sum_by (λ rank. if is_on core (get_or homes rank.vcpu None) then rank.demand else 0) ranks
 
 -- a vCPU leaves its old home only where those that were taken before it and it would overload it
@@ -22,7 +22,7 @@ pub record LeaveForNeed (homes : List (Option ℕ)) (tasks : List (Option Period
   pub need : (before after : List ByDemand) (rank : ByDemand) (core : ℕ) → order ≡ before ++ rank ∷ after
       → slice_get homes rank.vcpu ≡ Some (Some core) → core < cores
       → (slice_get core_of rank.vcpu ≡ Some (Some core))
-      ⊎ (ROUND < demand_at homes core (before ++ rank ∷ []))
+      ⊎ (ROUND < staying_demand homes core (before ++ rank ∷ []))
 
 -- where the vCPUs whose old home is a core take at most a round of it together, each of them stays
 abbrev pub StayWhereAllFit : List (Option ℕ) → List (Option Periodic) → ℕ → List (Option ℕ) → Type 0

@@ -2,7 +2,7 @@
 use Rattle.std.proofs.Common.{◌≡◌, ℕ, ◌+◌, ◌-◌, ◌*◌, ◌/◌, ◌<◌, ◌≤◌, List, [], Option, Some, length, get_or, slice_get, ap, refl, sym, subst, ◌∙◌, arith, inl, inr}
 use Rattle.std.proofs.lemmas.Bool.{cases_lt}
 use Rattle.std.proofs.lemmas.Option.{slice_get_within}
-use Rattle.tab_core.specs.Vcpus.{capped_of}
+use Rattle.tab_core.specs.Vcpus.{capped_set}
 use Rattle.tab_core.specs.declared.TheConstants.{MAX_VCPUS, ROUND}
 use Rattle.tab_core.specs.declared.host.Host.{Host}
 use Rattle.tab_core.specs.declared.periodic.Periodic.{Periodic}
@@ -16,7 +16,7 @@ use Rattle.period_choice.proofs.TasksLemmas.{none_without_period, tasks_where_re
 use Rattle.period_choice.proofs.Unique.{tasks_unique}
 use Rattle.table_form.proofs.TaskLemmas.{tasks_admit}
 use Rattle.flow_net.specs.Allotments.{AllotmentView, IsAllotment, demands}
-use Rattle.wrap_table.specs.Faults.{fault_of_tasks}
+use Rattle.wrap_table.specs.Faults.{whole_fault_of_tasks}
 use Rattle.wrap_table.specs.Inside.Laying.{HasIntervals}
 use Rattle.wrap_table.specs.Whole.{IsBeyondRoom, IsWholePlan}
 use Rattle.wrap_table.specs.Wrapping.{AreWrapped, IsWrapped}
@@ -81,7 +81,7 @@ fits_host host plan is = record {
 -- is left
 pub no_memory_for_tasks : (host : Host) (tasks : List (Option Periodic)) (fault : TaskFault)
     → AreTasksOf host tasks → ((vcpu : ℕ) → fault ≡ NoPeriod vcpu → IsFirstWithoutPeriod host vcpu)
-    → fault_of_tasks fault ≡ whole.NoMemory
+    → whole_fault_of_tasks fault ≡ whole.NoMemory
 no_memory_for_tasks host tasks (NoPeriod vcpu) are told =
     absurd (none_without_period host tasks vcpu are (told vcpu refl))
 no_memory_for_tasks host tasks NoMemory are told = refl
@@ -97,7 +97,7 @@ not_beyond host tasks demand room are fit beyond =
 -- what the three parts of planning make is a whole-host plan
 pub whole_plan : (host : Host) (tasks : List (Option Periodic)) (a : AllotmentView) (plan : PlanView)
     → AreTasksOf host tasks → IsAllotment tasks host.cores a → IsWrapped tasks a host.cores plan
-    → plan.capped ≡ capped_of host.vcpus → IsWholePlan host plan
+    → plan.capped ≡ capped_set host.vcpus → IsWholePlan host plan
 whole_plan host tasks a plan are is wrapped capped = record {
   allotment = a;
   tasks = subst (λ (ts : List (Option Periodic)). AreTasksOf host ts) (sym wrapped.tasks_are) are;

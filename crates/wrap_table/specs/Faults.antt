@@ -5,6 +5,6 @@ use Rattle.wrap_table.specs.declared.fault.WholeFault.{WholeFault}
 use Rattle.wrap_table.specs.declared.fault.WholeFault.TheVariants as whole
 
 -- a refusal of the choice of periods, as one of whole-host planning
-abbrev pub fault_of_tasks : TaskFault → WholeFault
-fault_of_tasks (task.NoPeriod vcpu) = whole.NoPeriod vcpu
-fault_of_tasks task.NoMemory = whole.NoMemory
+abbrev pub whole_fault_of_tasks : TaskFault → WholeFault
+whole_fault_of_tasks (task.NoPeriod vcpu) = whole.NoPeriod vcpu
+whole_fault_of_tasks task.NoMemory = whole.NoMemory

@@ -3,7 +3,7 @@
 -- for the layout; W. A. Horn, "Some simple scheduling algorithms", Naval Research Logistics
 -- Quarterly 21, 1974, for the allotment by flow.
 use Rattle.std.specs.Prelude.{◌≡◌, ℕ, ◌*◌, ◌<◌, List, Option}
-use Rattle.tab_core.specs.Vcpus.{capped_of}
+use Rattle.tab_core.specs.Vcpus.{capped_set}
 use Rattle.tab_core.specs.declared.TheConstants.{ROUND}
 use Rattle.tab_core.specs.declared.host.Host.{Host}
 use Rattle.tab_core.specs.declared.periodic.Periodic.{Periodic}
@@ -18,7 +18,7 @@ pub record IsWholePlan (host : Host) (plan : PlanView) : Type 0 where
   pub tasks : AreTasksOf host plan.tasks
   pub is_allotment : IsAllotment plan.tasks host.cores allotment
   pub wrapped : IsWrapped plan.tasks allotment host.cores plan
-  pub capped : plan.capped ≡ capped_of host.vcpus
+  pub capped : plan.capped ≡ capped_set host.vcpus
 
 -- the demands of the host's tasks sum to so many ticks of a round, more than the room of its cores
 pub record IsBeyondRoom (host : Host) (demand room : ℕ) : Type 0 where

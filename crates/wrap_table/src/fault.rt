@@ -1,5 +1,5 @@
 ghost use Rattle.std.specs.Prelude.{◌≡◌};
-ghost use Rattle.wrap_table.specs.Faults.{fault_of_tasks};
+ghost use Rattle.wrap_table.specs.Faults.{whole_fault_of_tasks};
 ghost use Rattle.wrap_table.specs.declared.fault.WholeFault.TheVariants.{NoMemory};
 
 use period_choice::TaskFault;
@@ -41,7 +41,7 @@ impl From<AllocError> for WholeFault {
 }
 
 impl From<TaskFault> for WholeFault {
-    ghost from_gives = { λ fault given. given ≡ fault_of_tasks fault };
+    ghost from_gives = { λ fault given. given ≡ whole_fault_of_tasks fault };
 
     fn from(fault: TaskFault) -> WholeFault {
         match fault {

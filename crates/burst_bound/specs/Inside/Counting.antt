@@ -6,12 +6,12 @@ use Rattle.table_form.specs.Running.State.{CoreState}
 use Rattle.table_form.specs.Tables.Serves.{is_cell_of}
 
 -- at how many of the ticks from one up to another the stint ran the vCPU
-abbrev pub run_in : ℕ → ℕ → ℕ → Stint → ℕ
-run_in v from end st = if is_cell_of v st.ran then min st.end end - max st.from from else 0
+abbrev pub ran_ticks_in : ℕ → ℕ → ℕ → Stint → ℕ
+ran_ticks_in v from end st = if is_cell_of v st.ran then min st.end end - max st.from from else 0
 
 -- at how many of the ticks from one up to another the stints ran the vCPU
 unfoldable pub run_by : ℕ → ℕ → ℕ → List Stint → ℕ
-run_by v from end stints = sum_by (run_in v from end) stints
+run_by v from end stints = sum_by (ran_ticks_in v from end) stints
 
 -- at how many of the ticks from one up to another the stints of cores ran the vCPU
 unfoldable pub run_on : ℕ → ℕ → ℕ → List CoreState → ℕ

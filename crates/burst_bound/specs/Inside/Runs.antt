@@ -28,8 +28,8 @@ abbrev pub pieces_of : List Stint → List RanPiece
 pieces_of stints = flat_map piece_of stints
 
 -- the pieces of all cores
-abbrev pub pieces_on : List CoreState → List RanPiece
-pieces_on cores = flat_map (λ (core : CoreState). pieces_of core.stints) cores
+abbrev pub ran_pieces : List CoreState → List RanPiece
+ran_pieces cores = flat_map (λ (core : CoreState). pieces_of core.stints) cores
 
 -- the pieces tell at which ticks of the run which vCPU ran: none is empty or beyond the run, and where a vCPU ran
 -- there is one piece of it
@@ -43,7 +43,7 @@ abbrev pub AreInPlace : List RanPiece → Type 0
 AreInPlace pieces = IsNonDecreasingBy (λ (p : RanPiece). place_of p.vcpu p.from) pieces
 
 -- the pieces before this place begin before the vCPU's tick, and the others don't
-pub record IsBegun (pieces : List RanPiece) (v t n : ℕ) : Type 0 where
+pub record CountsBegunPieces (pieces : List RanPiece) (v t n : ℕ) : Type 0 where
   pub within : n ≤ length pieces
   pub before : (k : ℕ) (p : RanPiece) → k < n → slice_get pieces k ≡ Some p
       → place_of p.vcpu p.from < place_of v t

@@ -2,7 +2,7 @@
 use Rattle.std.specs.Prelude.{◌≡◌, ◌≢◌, ℕ, ◌<◌, ◌≤◌, List, All, length, slice_index_or}
 use Rattle.tab_core.specs.declared.TheConstants.{ROUND}
 use Rattle.tab_core.specs.declared.piece.Piece.{Piece}
-use Rattle.edf_table.specs.Load.{load}
+use Rattle.edf_table.specs.Load.{load_of_pieces}
 use Rattle.cd_split.specs.Cores.{pieces_on}
 use Rattle.cd_split.specs.Splitting.{ComesFirst}
 use Rattle.cd_split.specs.declared.order.CoreLoad.{CoreLoad}
@@ -10,7 +10,7 @@ use Rattle.cd_split.specs.declared.order.CoreLoad.{CoreLoad}
 -- the core is one of these, and has this load
 pub record IsCoreLoad (cores : List (List Piece)) (r : CoreLoad) : Type 0 where
   pub there : r.core < length cores
-  pub value : r.load ≡ load (pieces_on cores r.core)
+  pub value : r.load ≡ load_of_pieces (pieces_on cores r.core)
   pub small : r.load ≤ ROUND
 
 -- the loads of all cores, in rising order, and of equal ones the lower core first

@@ -3,10 +3,10 @@ use Rattle.std.specs.Prelude.{◌≡◌, ℕ, ◌<◌, Bool, List, [], ◌∷◌
 use Rattle.tab_core.specs.declared.TheConstants.{MAX_VCPUS, ROUND}
 use Rattle.tab_core.specs.declared.piece.Piece.{Piece}
 use Rattle.table_form.specs.Tables.Segments.{put_before, AreMaximal, SegmentView}
-use Rattle.coalesce.specs.Joining.{CanSwap, NoSwap, SwapsTo, given}
+use Rattle.coalesce.specs.Joining.{CanSwap, NoSwap, SwapsTo, given_sliver}
 
 -- the table has the piece of each vCPU that has one here
-pub record IsTableOf (pieces : List Piece) (table : List (Option Piece)) : Type 0 where
+pub record IsPieceTableOf (pieces : List Piece) (table : List (Option Piece)) : Type 0 where
   pub size : length table ≡ MAX_VCPUS
   pub listed : (v : ℕ) (p : Piece) → slice_get table v ≡ Some (Some p)
       → (p.vcpu ≡ v) × (at : ℕ) × (slice_get pieces at ≡ Some p)
@@ -44,4 +44,4 @@ pub record EndBelow (out : List SegmentView) (tick : ℕ) : Type 0 where
 -- the segments, each with the owner that it is given; `x` is the segment before these
 abbrev pub given_all : (ℕ → Bool) → ℕ → SegmentView → List SegmentView → List SegmentView
 given_all may_grow sliver x [] = []
-given_all may_grow sliver x (y ∷ rest) = given may_grow sliver x y ∷ given_all may_grow sliver y rest
+given_all may_grow sliver x (y ∷ rest) = given_sliver may_grow sliver x y ∷ given_all may_grow sliver y rest

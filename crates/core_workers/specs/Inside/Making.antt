@@ -16,6 +16,6 @@ pub record IsNewActor (course : CourseView) (rounds c keep : ℕ) (a : ActorView
   pub agrees : (v : View) → IsOfOutline (outline_of course) v → HoldsCore v c → IsNewPart (part v c) → AgreesWith course a.state v
 
 -- the players are new, by number, and keep as many stints as `keeps` says
-abbrev pub AreNew : CourseView → ℕ → List ℕ → List (Player ActorView) → Type 0
-AreNew course rounds keeps cores = (i : ℕ) (p : Player ActorView) → slice_get cores i ≡ Some p
+abbrev pub ArePlayersNew : CourseView → ℕ → List ℕ → List (Player ActorView) → Type 0
+ArePlayersNew course rounds keeps cores = (i : ℕ) (p : Player ActorView) → slice_get cores i ≡ Some p
     → IsNewActor course rounds i (slice_index keeps i) p.actor

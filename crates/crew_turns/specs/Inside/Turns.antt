@@ -4,7 +4,7 @@ use Rattle.round_words.specs.declared.view.View.{View}
 use Rattle.round_words.specs.Views.{controller, holds, part}
 use Rattle.crew_turns.specs.Going.{PartsGoOn, SameActors}
 use Rattle.crew_turns.specs.Kinds.{Kind}
-use Rattle.crew_turns.specs.Numbers.{IsLeast}
+use Rattle.crew_turns.specs.Numbers.{IsLeastOfFirst}
 use Rattle.crew_turns.specs.Troops.{AllHaveEnded, AreAtRest}
 use Rattle.crew_turns.specs.Inside.Clocks.{lead_left, ticks_left}
 use Rattle.crew_turns.specs.declared.clocks.TheConstants.{OUT}
@@ -54,7 +54,7 @@ pub record LeastStuck {C : Type 0} (core : Kind C) (cores : List (Player C)) (ti
   pub number : ℕ
   pub within : number < length cores
   pub on : slice_index ticks number ≢ OUT
-  pub least : IsLeast ticks number (length cores)
+  pub least : IsLeastOfFirst ticks number (length cores)
   pub waits : (p : Player C) → slice_get cores number ≡ Some p → core.waits p.actor v w
 
 -- what came of the cores' part of a turn
@@ -80,8 +80,8 @@ or_stops Stopped = Stopped
 or_stops Done = Stopped
 
 -- what is left to do for all
-abbrev pub left_of : {L : Type 0} → Kind L → List ℕ → Player L → Bool → ℕ
-left_of control ticks lead posting = ticks_left ticks + lead_left control lead posting
+abbrev pub left_to_do : {L : Type 0} → Kind L → List ℕ → Player L → Bool → ℕ
+left_to_do control ticks lead posting = ticks_left ticks + lead_left control lead posting
 
 -- a turn in which somebody got on leaves less to do, and one in which nobody did leaves those who are held at rest
 abbrev pub TurnTold : {C L : Type 0} → Kind C → Kind L → ℕ → View → Progress → List (Player C) → Player L → ℕ → View → Type 0

@@ -15,14 +15,14 @@ use Rattle.dispatch_core.specs.declared.answer.Ended.{Ended}
 use Rattle.dispatch_core.specs.declared.ending.Due.{Due}
 use Rattle.dispatch_core.specs.declared.log.CoreLog.{CoreLog}
 use Rattle.dispatch_core.specs.Inside.Logs.{IsLog, log_view}
-use Rattle.dispatch_core.specs.States.{FollowsPlans, HasBegun, IsSameCore, Stands}
+use Rattle.dispatch_core.specs.States.{AgreesWithoutPlan, FollowsPlans, HasBegun, IsSameCore}
 use Rattle.dispatch_core.specs.Told.{EndGoes, EndTold, StaysWhereBehind}
 
 -- a step is to end that has begun, of the core of this log, by this seat
 pub record IsToEnd (of : RoundBoard) (due : Due) (seat : SeatView) (kept : CoreLog) : Type 0 where
   pub board : IsSeatOf of seat
   pub log : IsLog kept
-  pub stands : Stands due.outline.now (log_view kept) (view_of seat)
+  pub stands : AgreesWithoutPlan due.outline.now (log_view kept) (view_of seat)
   pub begun : HasBegun due.outline.now (log_view kept) (view_of seat) due.seen due.used
 
 -- the step ends with this answer, and leaves the seat and the log so. What is said by plans holds by each that `Fits`
@@ -30,7 +30,7 @@ pub record EndsStep (of : RoundBoard) (due : Due) (Fits : PlanView → Type 0) (
     (answer : Ended) (new : SeatView) (left : CoreLog) : Type 0 where
   pub board : IsSeatOf of new
   pub log : IsLog left
-  pub stands : Stands due.outline.now (log_view left) (view_of new)
+  pub stands : AgreesWithoutPlan due.outline.now (log_view left) (view_of new)
   pub same : IsSameCore (log_view kept) (log_view left)
   -- no part but the core's changes
   pub changes : ChangesOnly (view_of old) (view_of new) kept.core

@@ -34,7 +34,7 @@ abbrev pub due_at : Piece → ℕ → ℕ
 due_at p tick = window_no p tick * p.period + p.to
 
 -- the counts say what each job of each piece has had: a piece's jobs are served in order
-pub record IsCounted (ps : List Piece) (given : List ℕ) (tick : ℕ) : Type 0 where
+pub record AreJobsCounted (ps : List Piece) (given : List ℕ) (tick : ℕ) : Type 0 where
   pub enough : length ps ≤ length given
   pub small : (i : ℕ) → slice_index given i ≤ tick
   pub each : (i : ℕ) (d : Piece) → i < length ps → (k : ℕ) →
@@ -94,7 +94,7 @@ goal_of p next = (next - p.from) / p.period * p.cost
 
 -- what is kept of a piece once its windows that begin below `bound` have begun, and no further one
 -- begins below `event`: the tick at which its next one begins
-pub record IsKept (p : Piece) (bound event next : ℕ) : Type 0 where
+pub record IsPieceKept (p : Piece) (bound event next : ℕ) : Type 0 where
   pub count : ℕ
   pub next_is : next ≡ count * p.period + p.from
   pub goal_is : goal_of p next ≡ count * p.cost
@@ -103,13 +103,13 @@ pub record IsKept (p : Piece) (bound event next : ℕ) : Type 0 where
   pub ahead : event ≤ next
 
 -- what is kept of one piece is kept of each of the first n pieces
-abbrev pub AreKept : List Piece → List ℕ → ℕ → ℕ → ℕ → Type 0
-AreKept ps ns n bound event = (i : ℕ) (d : Piece) → i < n
-    → IsKept (slice_index_or ps i d) bound event (slice_index ns i)
+abbrev pub ArePiecesKept : List Piece → List ℕ → ℕ → ℕ → ℕ → Type 0
+ArePiecesKept ps ns n bound event = (i : ℕ) (d : Piece) → i < n
+    → IsPieceKept (slice_index_or ps i d) bound event (slice_index ns i)
 
 -- the key of the piece's window that began last: by its end, and at ties by the vCPU
-abbrev pub key_at : Piece → ℕ → ℕ
-key_at p next = due_of p next * MAX_VCPUS + p.vcpu
+abbrev pub urgency_key : Piece → ℕ → ℕ
+urgency_key p next = due_of p next * MAX_VCPUS + p.vcpu
 
 -- the job at a place of the list
 abbrev pub job_at : List Pending → ℕ → Pending
@@ -121,7 +121,7 @@ pub record IsJobOf (ps : List Piece) (given ns : List ℕ) (job : Pending) (i : 
   pub some : 0 < job.left
   pub left_is : (d : Piece)
       → slice_index given i + job.left ≡ goal_of (slice_index_or ps i d) (slice_index ns i)
-  pub key_is : (d : Piece) → job.key ≡ key_at (slice_index_or ps i d) (slice_index ns i)
+  pub key_is : (d : Piece) → job.key ≡ urgency_key (slice_index_or ps i d) (slice_index ns i)
 
 -- the first `count` jobs are those of the pieces that still have to get ticks, and the most urgent
 -- is the last
@@ -131,12 +131,12 @@ pub record ArePending (ps : List Piece) (given ns : List ℕ) (jobs : List Pendi
   pub each : (j : ℕ) → j < count → (i : ℕ) × IsJobOf ps given ns (job_at jobs j) i
   pub all : (i : ℕ) (d : Piece) → i < length ps
       → slice_index given i < goal_of (slice_index_or ps i d) (slice_index ns i)
-      → (j : ℕ) × (j < count) × ((job_at jobs j).key ≡ key_at (slice_index_or ps i d) (slice_index ns i))
+      → (j : ℕ) × (j < count) × ((job_at jobs j).key ≡ urgency_key (slice_index_or ps i d) (slice_index ns i))
   pub within : (i : ℕ) (d : Piece) → i < length ps
       → slice_index given i ≤ goal_of (slice_index_or ps i d) (slice_index ns i)
 
 -- of the first `count` jobs, those at and after a place have moved up for one that is more urgent
-pub record IsAdded (old new : List Pending) (count : ℕ) (job : Pending) : Type 0 where
+pub record IsJobInserted (old new : List Pending) (count : ℕ) (job : Pending) : Type 0 where
   pub at : ℕ
   pub within : at ≤ count
   pub here : job_at new at ≡ job
@@ -155,15 +155,15 @@ pub record IsUnderWay (ps : List Piece) (ns : List ℕ) (jobs : List Pending)
     (count tick begun served event : ℕ)
     : Type 0 where
   pub given : List ℕ
-  pub kept : AreKept ps ns (length ps) begun event
+  pub kept : ArePiecesKept ps ns (length ps) begun event
   pub pending : ArePending ps given ns jobs count
   pub timely : AreTimely jobs count served
-  pub counted : IsCounted ps given tick
+  pub counted : AreJobsCounted ps given tick
   pub met : MetBefore (jobs_of ps) served
 
 -- of the first n pieces none has a window that begins at a tick above `from` and below `tick`
-abbrev pub NoBegin : List Piece → ℕ → ℕ → ℕ → Type 0
-NoBegin ps n from tick = (i : ℕ) (d : Piece) → i < n →
+abbrev pub NoWindowBegins : List Piece → ℕ → ℕ → ℕ → Type 0
+NoWindowBegins ps n from tick = (i : ℕ) (d : Piece) → i < n →
     (k : ℕ) → from < k * (slice_index_or ps i d).period + (slice_index_or ps i d).from
     → tick ≤ k * (slice_index_or ps i d).period + (slice_index_or ps i d).from
 
@@ -191,6 +191,6 @@ pub record IsFirstEnd (jobs : List Job) (end : ℕ) : Type 0 where
   pub least : (f t : ℕ) → IsOverloaded jobs f t → end ≤ t
 
 -- the period of each of the first n pieces divides so many ticks
-abbrev pub IsCommon : List Piece → ℕ → ℕ → Type 0
-IsCommon ps n ticks = (i : ℕ) (d : Piece) → i < n
+abbrev pub IsCommonMultiple : List Piece → ℕ → ℕ → Type 0
+IsCommonMultiple ps n ticks = (i : ℕ) (d : Piece) → i < n
     → ticks / (slice_index_or ps i d).period * (slice_index_or ps i d).period ≡ ticks

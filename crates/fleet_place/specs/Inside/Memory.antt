@@ -2,7 +2,7 @@
 use Rattle.std.specs.Prelude.{◌≡◌, ℕ, ◌++◌, [], ◌∷◌, List, Option, Some, length, slice_get}
 use Rattle.sizes_doc.specs.declared.size.Size.{Size}
 use Rattle.fleet_place.specs.Deals.{Deal}
-use Rattle.fleet_place.specs.Fits.{IsRefused}
+use Rattle.fleet_place.specs.Fits.{IsHostRefused}
 use Rattle.fleet_place.specs.Held.{Held, sizes_in}
 use Rattle.fleet_place.specs.declared.vm.Vm.{Vm}
 
@@ -14,7 +14,7 @@ pub record IsAlike (one other : Size) : Type 0 where
 
 -- the planner refuses the size beside the VMs of the host
 abbrev pub IsRefusedBeside : ℕ → Held → Size → Type 0
-IsRefusedBeside tick held size = IsRefused tick held.cores (sizes_in held.vms ++ size ∷ [])
+IsRefusedBeside tick held size = IsHostRefused tick held.cores (sizes_in held.vms ++ size ∷ [])
 
 -- each size that is kept was refused beside the VMs of the host at its place
 abbrev pub KnowsRefusals : ℕ → List Held → List (Option Size) → Type 0

@@ -73,7 +73,7 @@ abbrev pub ReadsMore : Load → Reached → Reached → Type 0
 ReadsMore l q q' = (v i : ℕ) → v < l.width → i < l.count → q.scan v i ≤ q'.scan v i
 
 -- the edges of a job up to an interval were read, and no others
-pub record IsReading (l : Load) (q q' : Reached) (u from j : ℕ) : Type 0 where
+pub record AreEdgesRead (l : Load) (q q' : Reached) (u from j : ℕ) : Type 0 where
   pub done : (i : ℕ) → from ≤ i → i < j → q'.scan u i ≡ 1
   pub others : (v i : ℕ) → (v ≡ u → from ≤ i → i < j → ⊥) → q'.scan v i ≡ q.scan v i
 

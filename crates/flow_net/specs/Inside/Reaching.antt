@@ -55,6 +55,6 @@ IsReadUpToOf d f r head =
     IsReadUpTo (load d) (flow_of f.rows.items) (λ i. slice_index f.room.items i) (reached_of r) head
 
 -- what a network keeps: a flow with no short interval, and places for a search
-pub record IsKept (d : Demands) (f : Flow) (r : Reach) : Type 0 where
+pub record IsNetworkKept (d : Demands) (f : Flow) (r : Reach) : Type 0 where
   pub flow_ok : IsFlowOf d f (load d).count
   pub places : HasPlaces (load d) r

@@ -41,13 +41,13 @@ pub record WaitsForSome (b : LiveView) (c : ℕ) (v w : View) : Type 0 where
   pub waits : WaitsForCore b c v core tick w
 
 -- what the end of core c's step did, which has seen the one count and uses the other
-abbrev pub FinishTold : LiveView → ℕ → ℕ → ℕ → View → ShelfView → LiveAnswer → View → ShelfView → Type 0
-FinishTold b c seen used v s (Ran stint) w t = IsEndOf b c v (RanOn stint) w
-FinishTold b c seen used v s (Behind (Core d) tick) w t = WaitsForCore b c v d tick w × LooksBeyond b seen s t
-FinishTold b c seen used v s (Behind Controller tick) w t = ⊥
-FinishTold b c seen used v s (NotMade change) w t = (w ≡ v) × (change < changes_before b used)
+abbrev pub LiveFinishTold : LiveView → ℕ → ℕ → ℕ → View → ShelfView → LiveAnswer → View → ShelfView → Type 0
+LiveFinishTold b c seen used v s (Ran stint) w t = IsEndOf b c v (RanOn stint) w
+LiveFinishTold b c seen used v s (Behind (Core d) tick) w t = WaitsForCore b c v d tick w × LooksBeyond b seen s t
+LiveFinishTold b c seen used v s (Behind Controller tick) w t = ⊥
+LiveFinishTold b c seen used v s (NotMade change) w t = (w ≡ v) × (change < changes_before b used)
     × Missed s t change
-FinishTold b c seen used v s (Stopped change) w t =
+LiveFinishTold b c seen used v s (Stopped change) w t =
     (((w ≡ v) × (change < changes_before b used)) ⊎ (WaitsForSome b c v w × IsBeyond b seen change))
     × Knows t change true
-FinishTold b c seen used v s Finished w t = ⊥
+LiveFinishTold b c seen used v s Finished w t = ⊥

@@ -6,7 +6,7 @@ use Rattle.live_plan.specs.Courses.{IsPlanAt}
 use Rattle.live_plan.specs.Inside.Seeking.{IsSliceAt}
 
 -- the table is core c's by the plan after the count of events, if a round can use so many; none is that of the host's plan
-abbrev pub IsKept : LiveView → ℕ → Kept → Type 0
-IsKept b c kept = kept.used ≤ length b.outline.ticks
+abbrev pub IsTableKept : LiveView → ℕ → Kept → Type 0
+IsTableKept b c kept = kept.used ≤ length b.outline.ticks
     → MatchOption kept.table (IsPlanAt b (changes_before b kept.used) b.plan)
     (λ table. IsSliceAt b (changes_before b kept.used) c table.now)

@@ -19,7 +19,7 @@ pub record IsPlannedNext (before : Host) (edits : List Edit) (plan : PlanView) (
   pub rows : length plan.rows ≡ before.cores
 
 -- the edits make a host without a plan, and the host stays
-pub record IsRefusedNext (before : Host) (edits : List Edit) (outcome : Outcome) (next : Host) : Type 0 where
+pub record IsChangeRefusedNext (before : Host) (edits : List Edit) (outcome : Outcome) (next : Host) : Type 0 where
   pub host : Host
   pub edited : IsEdited before edits host
   pub unplanned : IsUnplanned host outcome
@@ -29,5 +29,5 @@ pub record IsRefusedNext (before : Host) (edits : List Edit) (outcome : Outcome)
 abbrev pub IsFoundNext : Host → List Edit → Found → Host → Type 0
 IsFoundNext before edits (Planned plan slices) next = IsPlannedNext before edits (plan_view plan) next
     × AreTablesOf (plan_view plan) slices.items
-IsFoundNext before edits (Refused outcome) next = IsRefusedNext before edits outcome next
+IsFoundNext before edits (Refused outcome) next = IsChangeRefusedNext before edits outcome next
 IsFoundNext before edits NoMemory next = Unit {0}

@@ -13,7 +13,7 @@ use Rattle.live_plan.specs.Courses.{IsPlanAt}
 use Rattle.live_plan.specs.Shelves.{Knows, Missed, ShelfView}
 
 -- what was taken last is right for so many changes of the book
-pub record IsTaken (b : LiveView) (taken : Taken) : Type 0 where
+pub record IsLatestTaken (b : LiveView) (taken : Taken) : Type 0 where
   pub few : taken.changes ≤ length b.changes
   pub last : IsLastChange b taken.changes taken.planned
 
@@ -33,6 +33,6 @@ abbrev pub IsFree : LiveView → ℕ → ShelfView → Type 0
 IsFree b n t = n < length b.outline.ticks → IsChange b n → Knows t (changes_before b n) false
 
 -- event n is a change which holds the controller back
-abbrev pub IsHeld : LiveView → ℕ → ShelfView → ShelfView → Unmade → Type 0
-IsHeld b n s t (NotMade change) = IsNextChange b n change × Missed s t change
-IsHeld b n s t (Stopped change) = IsNextChange b n change × Knows t change true
+abbrev pub IsHeldBack : LiveView → ℕ → ShelfView → ShelfView → Unmade → Type 0
+IsHeldBack b n s t (NotMade change) = IsNextChange b n change × Missed s t change
+IsHeldBack b n s t (Stopped change) = IsNextChange b n change × Knows t change true

@@ -23,7 +23,7 @@ pub record AreShares (cores : List (List Piece)) (vcpu : ℕ) (task : Periodic)
   pub cost : sum_by (λ p. p.cost) pieces ≡ task.cost
 
 -- the vCPU is split: its pieces are after those of the cores, and the last of them is on its home
-pub record IsAdded (cores : List (List Piece)) (vcpu : ℕ) (task : Periodic)
+pub record AddsPieces (cores : List (List Piece)) (vcpu : ℕ) (task : Periodic)
     (end : List (List Piece)) (home : ℕ) : Type 0 where
   pub pieces : List Piece
   pub shares : AreShares cores vcpu task pieces
@@ -36,7 +36,7 @@ pub record SplitsNext (tasks : List (Option Periodic)) (cores : List (List Piece
   pub task : Periodic
   pub at : slice_get tasks vcpu ≡ Some (Some task)
   pub home : ℕ
-  pub added : IsAdded cores vcpu task end home
+  pub added : AddsPieces cores vcpu task end home
   pub homes_are : homes' ≡ slice_set homes vcpu (Some home)
 
 -- the next left-over vCPU can't be split

@@ -1,7 +1,8 @@
 -- What the reader of an old text keeps on its way. No clause of the top call rests on it.
 use Rattle.std.specs.Prelude.{◌≡◌, ◌⊎◌, ℕ, ◌<◌, ◌^◌, List, [], ◌∷◌, decimal}
+use Rattle.tab_words.specs.Texts.{Line}
 use Rattle.plan_text.specs.OldText.{AreOldVcpus, IsCoreLine, IsHomeLine, IsSegmentLine, NamedHome}
-use Rattle.plan_text.specs.PlanLines.{Line, end_words}
+use Rattle.plan_text.specs.PlanLines.{end_words}
 
 -- some vCPUs, and the rows
 abbrev pub AreSomeOldVcpus : List Line → Type 0
@@ -24,6 +25,6 @@ abbrev pub IsSomeHomeLine : Line → Type 0
 IsSomeHomeLine line = (vcpu : NamedHome) × IsHomeLine line vcpu
 
 -- the words begin with this one and this number, and the rest follows
-pub record BeginsWithNumber (line : Line) (key : List ℕ) (n : ℕ) (rest : Line) : Type 0 where
+pub record BeginsWithKeyAndNumber (line : Line) (key : List ℕ) (n : ℕ) (rest : Line) : Type 0 where
   pub small : n < 2 ^ 64
   pub words : line ≡ key ∷ decimal n ∷ rest

@@ -2,14 +2,15 @@
 use Rattle.std.specs.Prelude.{◌≡◌, ℕ, ◌-◌, ◌<◌, IsTrue, List, [], ◌∷◌, ◌++◌, count_by, drop, length, map, Option, Some, None}
 use Rattle.std.specs.List.{All}
 use Rattle.tab_core.specs.declared.periodic.Periodic.{Periodic}
+use Rattle.tab_words.specs.Texts.{Line, worded}
 use Rattle.table_form.specs.declared.segment.Segment.{Segment}
 use Rattle.table_form.specs.Tables.Homes.{are_housed}
 use Rattle.plan_text.specs.FirstBad.{IsFirstBadFor}
-use Rattle.plan_text.specs.Meaning.{AreFineRows, IsFineSegment, IsSomePlan, segment_words, worded}
-use Rattle.plan_text.specs.PlanLines.{Line, core_lines, end_words, head_words, is_admitted, vcpu_lines, vcpu_words}
+use Rattle.plan_text.specs.Meaning.{AreFineRows, IsFineSegment, IsSomePlan, segment_words}
+use Rattle.plan_text.specs.PlanLines.{core_lines, end_words, head_words, is_admitted, vcpu_lines, vcpu_words}
 
 -- the lines of a text that are left, and the number of the first of them
-pub record Left : Type 0 where
+pub record TextLeft : Type 0 where
   pub lines : List Line
   pub number : ℕ
 
@@ -61,7 +62,7 @@ IsNoVcpu name (Some task) cores lines = (home : ℕ) → home < cores
 -- of the text the first line, those of the vCPUs with these homes and those of these rows are read, and
 -- these lines are left
 pub record IsReadTo (names : List (List ℕ)) (cores : ℕ) (tasks : List (Option Periodic)) (bytes : List ℕ)
-    (homes : List (Option ℕ)) (rows : List (List Segment)) (left : Left) : Type 0 where
+    (homes : List (Option ℕ)) (rows : List (List Segment)) (left : TextLeft) : Type 0 where
   pub housed : IsTrue (are_housed cores tasks homes)
   pub fine : AreFineRows tasks rows
   pub lines : worded bytes ≡ head_words cores (count_by is_admitted tasks)

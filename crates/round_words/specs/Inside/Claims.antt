@@ -7,7 +7,7 @@ use lib.ListN.{get_elem?}
 use Rattle.tab_core.specs.declared.entry.Entry.{Entry}
 use Rattle.round_words.specs.declared.view.Part.{Part}
 use Rattle.round_words.specs.declared.view.View.{View}
-use Rattle.round_words.specs.Views.{just_started, part, with_part, entry, enters}
+use Rattle.round_words.specs.Views.{just_started, part, with_part, entry, with_entry}
 use Rattle.round_words.specs.Changes.{PostsFloor, SeesCount, HearsClock, AppendsStint}
 use Rattle.round_words.specs.Rule.{decision_word, KeepsRule}
 use Rattle.round_words.specs.Shown.{IsSight, IsHeardClock}
@@ -47,9 +47,9 @@ IsExpected p k old = (k < 4 → old ≡ 0)
 abbrev pub DecideClaim : ℕ × ℕ × ℕ × ℕ → View → ℕ → View → Type 0
 DecideClaim x v n w =
     ((n ≡ x.3) × (x.2 ≤ v.events)
-    × (w ≡ with_part v x.0 (enters (part v x.0) (entry x.1 x.2 x.2 true))))
+    × (w ≡ with_part v x.0 (with_entry (part v x.0) (entry x.1 x.2 x.2 true))))
     ⊎ ((u : ℕ) × (n ≢ x.3) × (n ≡ decision_word x.1 u) × (u ≤ v.events)
-    × (w ≡ with_part v x.0 (enters (part v x.0) (entry x.1 u x.2 false))))
+    × (w ≡ with_part v x.0 (with_entry (part v x.0) (entry x.1 u x.2 false))))
 
 -- `advance`, of the core, the end and who ran
 abbrev pub AdvanceClaim : ℕ × ℕ × Option ℕ → View → ℕ → View → Type 0

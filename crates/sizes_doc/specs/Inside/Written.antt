@@ -1,10 +1,10 @@
 -- The parts of a size as the reader holds them.
 use Rattle.std.specs.Prelude.{◌≡◌, ◌≢◌, ℕ, Bool, true, List, codes}
-use Rattle.sizes_doc.specs.Sizes.{Parts, form_words}
+use Rattle.sizes_doc.specs.Sizes.{SizeParts, form_words}
 use Rattle.sizes_doc.specs.declared.size_reader.Written.{Written}
 
 -- their bytes
-abbrev pub parts_in : Written → Parts
+abbrev pub parts_in : Written → SizeParts
 parts_in written = record {
   alone = written.head.alone;
   name = written.head.name.now;

@@ -33,9 +33,9 @@ made_by cores (marks.Entered c place) = entry_made c (slice_get (core_in cores c
 made_by cores (marks.Ran c place) = stint_made c (slice_get (core_in cores c).stints place)
 
 -- what the mark refers to is there
-abbrev pub Stands : List CoreState → Mark → Type 0
-Stands cores (marks.Entered c place) = (c < length cores) × (place < length (core_in cores c).entries)
-Stands cores (marks.Ran c place) = (c < length cores) × (place < length (core_in cores c).stints)
+abbrev pub IsMarkThere : List CoreState → Mark → Type 0
+IsMarkThere cores (marks.Entered c place) = (c < length cores) × (place < length (core_in cores c).entries)
+IsMarkThere cores (marks.Ran c place) = (c < length cores) × (place < length (core_in cores c).stints)
 
 -- what the marks refer to, in their order
 abbrev pub all_made : List CoreState → List Mark → List Made
@@ -43,4 +43,4 @@ all_made cores ms = map (made_by cores) ms
 
 -- what each of the marks refers to is there
 abbrev pub AllStand : List CoreState → List Mark → Type 0
-AllStand cores ms = All (Stands cores) ms
+AllStand cores ms = All (IsMarkThere cores) ms

@@ -7,8 +7,8 @@ use Rattle.slice_table.specs.CoreSlices.{AreSlicesOf}
 use Rattle.slice_table.specs.declared.full_span.FullSpan.{FullSpan}
 use Rattle.step_machine.specs.declared.machine_state.MachineState.{MachineState}
 use Rattle.step_machine.specs.declared.mark.Mark.{Mark}
-use Rattle.step_machine.specs.Inside.Logs.{cores_of, KnowLast}
-use Rattle.step_machine.specs.Inside.MachineStates.{state_of, HasSpare}
+use Rattle.step_machine.specs.Inside.Logs.{cores_of_logs, KnowLast}
+use Rattle.step_machine.specs.Inside.MachineStates.{state_of_machine, HasSpare}
 use Rattle.step_machine.specs.Inside.Marks.{AllStand}
 
 -- each of the first n cores has its tables of the course's plans
@@ -28,8 +28,8 @@ pub record IsWorld (course : CourseView) (slices : List (List (List FullSpan))) 
   pub sliced : HaveSlices course slices
   pub course_kept : IsCourse course
   pub fits : FitsRounds course rounds
-  pub kept : StateInvariant course rounds (state_of p)
+  pub kept : StateInvariant course rounds (state_of_machine p)
   pub room : HasSpare rounds spare p
   pub marks_room : length marks.items + spare ≤ vec_capacity marks
-  pub stand : AllStand (cores_of p.logs.items) marks.items
+  pub stand : AllStand (cores_of_logs p.logs.items) marks.items
   pub last : KnowLast course p.logs.items

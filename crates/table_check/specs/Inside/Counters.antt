@@ -48,7 +48,7 @@ IsFirstLow counters v task (Some k) =
     ((j : ℕ) → j < k → task.cost ≤ count_at counters v j)
 
 -- a counter for each period of each of few vCPUs, none above what so many rows can give
-pub record HaveRoom (tasks : List (Option Periodic)) (count : ℕ) (counters : List ℕ) : Type 0 where
+pub record CountersHaveRoom (tasks : List (Option Periodic)) (count : ℕ) (counters : List ℕ) : Type 0 where
   pub few : length tasks ≤ MAX_VCPUS
   pub size : length counters ≡ length tasks * MAX_PERIODS
   pub most : AreAtMost tasks (count * ROUND) counters

@@ -4,7 +4,7 @@ use Rattle.tab_core.specs.declared.periodic.Periodic.{Periodic}
 use Rattle.table_form.specs.Tables.Rows.{Row}
 use Rattle.table_form.specs.Tables.Serves.{Serves}
 use Rattle.table_form.specs.declared.segment.Segment.{Segment}
-use Rattle.table_check.specs.Shapes.{IsFirstBad}
+use Rattle.table_check.specs.Shapes.{IsFirstBadShape}
 use Rattle.table_check.specs.Shortages.{IsFirstShort}
 use Rattle.table_check.specs.declared.fault.CheckFault.{CheckFault}
 use Rattle.table_check.specs.declared.fault.CheckFault.TheVariants.{BadShape}
@@ -12,7 +12,7 @@ use Rattle.table_check.specs.declared.shortage.Shortage.{Shortage}
 
 -- the fault is that the segments of some core make no row, and tells the lowest such core
 abbrev pub IsShapeFault : List (List Segment) → CheckFault → Type 0
-IsShapeFault raw fault = (core : ℕ) × (place : ℕ) × (fault ≡ BadShape core place) × IsFirstBad raw core place
+IsShapeFault raw fault = (core : ℕ) × (place : ℕ) × (fault ≡ BadShape core place) × IsFirstBadShape raw core place
 
 -- the first shortage of the rows, or that they serve each task
 abbrev pub IsShortageOf : List (Option Periodic) → List Row → Option Shortage → Type 0

@@ -3,7 +3,7 @@ use Rattle.std.specs.Prelude.{◌≡◌, ℕ, List, [], ◌∷◌, ◌++◌, Opt
 use Rattle.table_form.specs.Tables.Segments.{SegmentView}
 
 -- the last of the segments has the owner
-pub record EndsWith (out : List SegmentView) (owner : Option ℕ) : Type 0 where
+pub record EndsWithOwner (out : List SegmentView) (owner : Option ℕ) : Type 0 where
   pub before : List SegmentView
   pub last : SegmentView
   pub is : out ≡ before ++ last ∷ []

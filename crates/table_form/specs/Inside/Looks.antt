@@ -19,7 +19,7 @@ pub record IsLook (plan : PlanView) (c place : ℕ) (spot : Spot) : Type 0 where
 
 -- the owner and the vCPUs away at the place, where the places up to the spot's end are known to be
 -- alike
-pub record IsPart (plan : PlanView) (c place : ℕ) (spot : Spot) : Type 0 where
+pub record IsSpotSoFar (plan : PlanView) (c place : ℕ) (spot : Spot) : Type 0 where
   pub owner : spot.owner ≡ owner_at plan.rows c place
   pub size : length spot.away ≡ MAX_VCPUS
   pub away : (v : ℕ) → v < MAX_VCPUS → (IsTrue (has_vcpu spot.away v) ↔ IsAway plan c place v)

@@ -24,7 +24,7 @@ abbrev pub runs : CoreState → Stint → CoreState
 runs core s = record core { clock = s.end; seen = None; stints = core.stints ++ s ∷ [] }
 
 -- Run: the core runs its next stint, if every other clock is at least the stint's end less the lag
-pub record Runs (course : CourseView) (rounds c : ℕ) (old new : State) : Type 0 where
+pub record RunsNextStint (course : CourseView) (rounds c : ℕ) (old new : State) : Type 0 where
   pub core : CoreState
   pub at : IsCore old c core
   pub stint : Stint

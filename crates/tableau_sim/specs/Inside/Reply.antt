@@ -23,8 +23,8 @@ use Rattle.tableau_sim.specs.declared.reply.Text.TheVariants as written
 use Rattle.tableau_sim.specs.declared.status.Status.TheVariants as status
 use Rattle.tableau_sim.specs.declared.input.TheConstants.{INPUT_LIMIT}
 use Rattle.tableau_sim.specs.Frame.{Due, IsDue, outcome_of}
-use Rattle.tableau_sim.specs.Outcomes.{Outcome}
-use Rattle.tableau_sim.specs.Outcomes.Outcome.{Refuses, Writes}
+use Rattle.tableau_sim.specs.Outcomes.{CallOutcome}
+use Rattle.tableau_sim.specs.Outcomes.CallOutcome.{Refuses, Writes}
 
 -- the bytes of a text
 abbrev pub bytes_of : Text → List ℕ
@@ -50,13 +50,13 @@ names_in None = []
 names_in (Some host) = names_of host.vcpus
 
 -- the reply is an outcome of which P holds, and can be written; or memory ran out
-abbrev pub Makes : (Outcome → Type 0) → Result Text Stop → Type 0
+abbrev pub Makes : (CallOutcome → Type 0) → Result Text Stop → Type 0
 Makes P (Ok text) = P (Writes (bytes_of text)) × IsWritable text
 Makes P (Err (stop.Refused refusal host)) = P (Refuses refusal (names_in host))
 Makes P (Err stop.NoMemory) = Unit {0}
 
 -- the outcome that a reply stands for
-abbrev pub outcome_in : Result Text Stop → Outcome
+abbrev pub outcome_in : Result Text Stop → CallOutcome
 outcome_in (Ok text) = Writes (bytes_of text)
 outcome_in (Err (stop.Refused refusal host)) = Refuses refusal (names_in host)
 outcome_in (Err stop.NoMemory) = Refuses status.NoMemory []
@@ -66,7 +66,7 @@ CanBeWritten (Ok text) = IsWritable text
 CanBeWritten (Err why) = Unit {0}
 
 -- what was read, and that the reply is due after it
-pub record IsReplyTo (R : Command → List ℕ → Outcome → Type 0) (Leaves : Due → List ℕ → Type 0)
+pub record IsReplyTo (R : Command → List ℕ → CallOutcome → Type 0) (Leaves : Due → List ℕ → Type 0)
     (words : List (List ℕ)) (old new : SourceView) (reply : Result Text Stop) : Type 0 where
   pub input : List ℕ
   pub consumed : Consumes old.rest new.rest input

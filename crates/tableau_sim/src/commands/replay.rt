@@ -3,7 +3,7 @@ ghost use Rattle.script_doc.specs.Script.{AreInRun, AreWithin};
 ghost use Rattle.script_doc.specs.Steps.{IsStepWithin};
 ghost use Rattle.tab_words.specs.Commands.{IsRoundCount};
 ghost use Rattle.tableau_sim.specs.Inside.Reply.{Makes};
-ghost use Rattle.tableau_sim.specs.Replay.{HasParts, Replays};
+ghost use Rattle.tableau_sim.specs.Replay.{HasReplayInput, Replays};
 ghost use Rattle.tableau_sim.specs.Sections.{OfSections};
 ghost use Rattle.tableau_sim.specs.declared.input.TheConstants.{INPUT_LIMIT};
 
@@ -68,7 +68,7 @@ fn replay_of_parts<R: Threads + Sync>(
     requires in_run { AreInRun rounds script }
     requires names { All (IsStepWithin host.cores) list.steps }
     ensures { (sections : List (List ℕ))
-        → HasParts rounds sections
+        → HasReplayInput rounds sections
         (record { host = host; events = script; steps = list.steps; lines = list.lines })
         → Makes (Replays rounds sections) result }
 {

@@ -12,16 +12,16 @@ ghost use Rattle.burst_bound.specs.KeptRuns.{IsKeptRun};
 ghost use Rattle.burst_bound.specs.ScriptBursts.{bursts_of};
 ghost use Rattle.round_words.specs.declared.view.View.{View as ViewValue};
 ghost use Rattle.round_words.specs.Seats.{view_of, IsSeatOf};
-ghost use Rattle.round_words.specs.Views.{opening};
+ghost use Rattle.round_words.specs.Views.{unstarted};
 ghost use Rattle.table_form.specs.Running.Courses.{IsCourse};
-ghost use Rattle.course_run.specs.Inside.Keeping.{IsShort};
-ghost use Rattle.course_run.specs.RunText.{run_text};
-ghost use Rattle.course_run.specs.Runs.{CanBeTold, kept_stints};
+ghost use Rattle.run_course.specs.Inside.Keeping.{IsTraceWithinLimit};
+ghost use Rattle.run_course.specs.RunText.{run_text};
+ghost use Rattle.run_course.specs.Runs.{IsRunWritable, kept_stints};
 ghost use Rattle.tableau_sim.specs.Frame.{Answers, WritesReply};
 ghost use Rattle.tableau_sim.specs.Inside.Reply.{HasInput, Makes};
 ghost use Rattle.tableau_sim.specs.declared.input.TheConstants.{INPUT_LIMIT};
 ghost use Rattle.tableau_sim.specs.Inside.Running.{AnswersBy, HasBurstRoom, IsPrepared};
-ghost use Rattle.tableau_sim.specs.Outcomes.Outcome.{Writes};
+ghost use Rattle.tableau_sim.specs.Outcomes.CallOutcome.{Writes};
 ghost use Rattle.tableau_sim.specs.Replay.{HasScript};
 ghost use Rattle.tableau_sim.specs.Run.{Runs, burst_part};
 ghost use Rattle.tableau_sim.specs.Seats.{LeavesRun, LeavesSeat, OnSeat};
@@ -36,14 +36,14 @@ use crate::status::Status;
 use crate::stops::{script_of, stop_of_plan, stop_of_run};
 use burst_bound::{BurstAnswer, BurstReport, write_bursts};
 use core_workers::{Crew, Gate};
-use course_run::{Ran, TRACE_LIMIT, changes_of, run_course, write_run};
 use plan_book::{Outcome, PlanBook, make_book};
 use round_words::RoundSeat;
+use run_course::{Ran, TRACE_LIMIT, changes_of, run_course, write_run};
+use run_limit::stint_bound;
 use script_doc::Script;
 use std::alloc::Global;
 use std::sync::Wait;
 use std::thread::Threads;
-use stint_limit::stint_bound;
 use tab_core::{Host, NoMemory};
 use tab_io::{Sink, Source, WriteFault};
 use tab_words::{RunMode, Sections};
@@ -61,7 +61,7 @@ pub(crate) fn run<R: Threads + Wait + Sync, S: Source, K: Sink, G: Gate>(
     requires some { 1 ≤ rounds }
     requires few { rounds ≤ MAX_ROUNDS }
     requires board { IsSeatOf stage.now.board.now seat }
-    requires opening { view_of seat ≡ opening }
+    requires unstarted { view_of seat ≡ unstarted }
     ensures board { IsSeatOf stage.now.board.now result.seat }
     ensures answers { (words : List (List ℕ)) → IsCommand words (called.Run rounds mode)
         → Answers (OnSeat (view_of seat) (view_of result.seat)) (LeavesSeat (view_of seat) (view_of result.seat)) words
@@ -94,7 +94,7 @@ fn run_input<R: Threads + Wait + Sync, K: Sink, G: Gate>(
     requires some { 1 ≤ rounds }
     requires few { rounds ≤ MAX_ROUNDS }
     requires board { IsSeatOf stage.now.board.now seat }
-    requires opening { view_of seat ≡ opening }
+    requires unstarted { view_of seat ≡ unstarted }
     ensures board { IsSeatOf stage.now.board.now result.seat }
     ensures answers { (words : List (List ℕ)) (from to : SourceView) → IsCommand words (called.Run rounds mode)
         → HasInput from to bytes.now
@@ -124,7 +124,7 @@ fn run_sections<R: Threads + Wait + Sync, K: Sink, G: Gate>(
     requires some { 1 ≤ rounds }
     requires few { rounds ≤ MAX_ROUNDS }
     requires board { IsSeatOf stage.now.board.now seat }
-    requires opening { view_of seat ≡ opening }
+    requires unstarted { view_of seat ≡ unstarted }
     ensures board { IsSeatOf stage.now.board.now result.seat }
     ensures answers { AnswersBy (Runs rounds mode (view_of result.seat) sections.now)
         (LeavesRun rounds mode (view_of seat) (view_of result.seat) sections.now)
@@ -224,7 +224,7 @@ fn run_script<R: Threads + Sync, K: Sink, G: Gate>(
     requires within { AreWithin (length host.vcpus) script }
     requires in_run { AreInRun rounds script }
     requires board { IsSeatOf stage.now.board.now seat }
-    requires opening { view_of seat ≡ opening }
+    requires unstarted { view_of seat ≡ unstarted }
     ensures board { IsSeatOf stage.now.board.now result.seat }
     ensures answers { (sections : List (List ℕ)) → HasScript rounds sections host script
         → AnswersBy (Runs rounds mode (view_of result.seat) sections)
@@ -278,7 +278,7 @@ fn tell_bursts(
     requires course { IsCourse course.now }
     requires events { length script.now ≡ length course.now.ticks }
     requires room { mode ≡ Burst → HasBurstRoom course.now rounds script.now bursts.old }
-    requires short { IsShort course.now rounds mode }
+    requires short { IsTraceWithinLimit course.now rounds mode }
     requires kept { mode ≡ Burst → (s : StateValue) × IsKeptRun course.now rounds crew.now s }
     ensures { mode ≡ Burst → (s : StateValue) → IsKeptRun course.now rounds crew.now s
         → AreBurstAnswers course.now rounds s script.now bursts.new.answers }
@@ -298,7 +298,7 @@ fn write_ran<K: Sink>(
     answers: &[BurstAnswer],
     ran: &Ran<'_>,
 ) -> Status
-    requires told { CanBeTold mode run.now.host ran.now }
+    requires told { IsRunWritable mode run.now.host ran.now }
     requires answers { mode ≡ Burst → length answers.now ≡ length (bursts_of run.now.script) }
     ensures { WritesReply (K.state output.old) (K.state output.new) (Writes (
         burst_part mode run.now.host run.now.script answers.now
@@ -318,7 +318,7 @@ fn put_ran<K: Sink>(
     answers: &[BurstAnswer],
     ran: &Ran<'_>,
 ) -> Result<(), WriteFault>
-    requires told { CanBeTold mode run.now.host ran.now }
+    requires told { IsRunWritable mode run.now.host ran.now }
     requires answers { mode ≡ Burst → length answers.now ≡ length (bursts_of run.now.script) }
     ensures { Puts (K.state sink.old) (K.state sink.new) (
         burst_part mode run.now.host run.now.script answers.now

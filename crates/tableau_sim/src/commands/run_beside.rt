@@ -3,12 +3,12 @@ ghost use Rattle.tab_core.specs.declared.TheConstants.{MAX_ROUNDS};
 ghost use Rattle.tab_words.specs.declared.command.RunMode.TheVariants.{Live};
 ghost use Rattle.script_doc.specs.Script.{AreInRun, AreWithin};
 ghost use Rattle.round_words.specs.Seats.{view_of, IsSeatOf};
-ghost use Rattle.round_words.specs.Views.{opening};
+ghost use Rattle.round_words.specs.Views.{unstarted};
 ghost use Rattle.trace_report.specs.ReportText.{report_text};
-ghost use Rattle.live_run.specs.LiveRuns.{CanBeTold};
+ghost use Rattle.run_live.specs.LiveRuns.{IsLiveRunWritable};
 ghost use Rattle.tableau_sim.specs.Frame.{WritesReply};
 ghost use Rattle.tableau_sim.specs.Inside.Running.{AnswersBy};
-ghost use Rattle.tableau_sim.specs.Outcomes.Outcome.{Writes};
+ghost use Rattle.tableau_sim.specs.Outcomes.CallOutcome.{Writes};
 ghost use Rattle.tableau_sim.specs.Replay.{HasScript};
 ghost use Rattle.tableau_sim.specs.Run.{Runs};
 ghost use Rattle.tableau_sim.specs.Seats.{LeavesRun};
@@ -19,8 +19,8 @@ use crate::stage::Stage;
 use crate::status::Status;
 use crate::stops::stop_of_live;
 use core_workers::Gate;
-use live_run::{Ran, run_script, write_run};
 use round_words::RoundSeat;
+use run_live::{Ran, run_script, write_run};
 use script_doc::Script;
 use std::sync::Wait;
 use std::thread::Threads;
@@ -41,7 +41,7 @@ pub(crate) fn run_beside<R: Threads + Wait + Sync, K: Sink, G: Gate>(
     requires within { AreWithin (length host.vcpus) script }
     requires in_run { AreInRun rounds script }
     requires board { IsSeatOf stage.now.board.now seat }
-    requires opening { view_of seat ≡ opening }
+    requires unstarted { view_of seat ≡ unstarted }
     ensures board { IsSeatOf stage.now.board.now result.seat }
     ensures answers { (sections : List (List ℕ)) → HasScript rounds sections host script
         → AnswersBy (Runs rounds Live (view_of result.seat) sections)
@@ -71,7 +71,7 @@ pub(crate) fn run_beside<R: Threads + Wait + Sync, K: Sink, G: Gate>(
 
 // Writes the report of a run that was made, and settles it.
 fn write_ran<K: Sink>(output: &mut K, host: &Host, rounds: u32, ran: &Ran) -> Status
-    requires { CanBeTold host.now ran.now }
+    requires { IsLiveRunWritable host.now ran.now }
     ensures { WritesReply (K.state output.old) (K.state output.new) (Writes (report_text host.now ran.now.changes
         (length ran.now.book.course.ticks) rounds ran.now.report)) result }
 {

@@ -5,12 +5,12 @@ ghost use Rattle.tab_words.specs.Commands.{IsCommand};
 ghost use Rattle.tab_words.specs.declared.command.Command.TheVariants as called;
 ghost use Rattle.tab_words.specs.declared.command.RunMode.TheVariants.{Report};
 ghost use Rattle.round_words.specs.Seats.{view_of, IsSeatOf};
-ghost use Rattle.round_words.specs.Views.{opening};
-ghost use Rattle.course_run.specs.RunText.{run_text};
-ghost use Rattle.course_run.specs.Runs.{CanBeTold, kept_stints};
+ghost use Rattle.round_words.specs.Views.{unstarted};
+ghost use Rattle.run_course.specs.RunText.{run_text};
+ghost use Rattle.run_course.specs.Runs.{IsRunWritable, kept_stints};
 ghost use Rattle.tableau_sim.specs.Frame.{Answers, WritesReply};
 ghost use Rattle.tableau_sim.specs.Inside.Running.{AnswersBy, IsTestHost};
-ghost use Rattle.tableau_sim.specs.Outcomes.Outcome.{Writes};
+ghost use Rattle.tableau_sim.specs.Outcomes.CallOutcome.{Writes};
 ghost use Rattle.tableau_sim.specs.Seats.{LeavesSeat, OnSeat};
 ghost use Rattle.tableau_sim.specs.Selftest.{Selftests, selftest_line};
 
@@ -20,11 +20,11 @@ use crate::reply::Stop;
 use crate::stage::Stage;
 use crate::status::Status;
 use core_workers::Gate;
-use course_run::{Ran, RunFault, run_course, write_run};
 use host_gen::generate;
 use plan_book::{PlanBook, make_book};
 use plan_make::PlanFault;
 use round_words::RoundSeat;
+use run_course::{Ran, RunFault, run_course, write_run};
 use script_doc::Script;
 use std::alloc::{AllocError, Global};
 use std::thread::Threads;
@@ -40,7 +40,7 @@ pub(crate) fn selftest<R: Threads + Sync, K: Sink, G: Gate>(
     seat: RoundSeat,
 ) -> Done
     requires board { IsSeatOf stage.now.board.now seat }
-    requires opening { view_of seat ≡ opening }
+    requires unstarted { view_of seat ≡ unstarted }
     ensures board { IsSeatOf stage.now.board.now result.seat }
     ensures answers { (words : List (List ℕ)) (source : SourceView) → IsCommand words (called.Selftest seed)
         → Answers (OnSeat (view_of seat) (view_of result.seat)) (LeavesSeat (view_of seat) (view_of result.seat)) words
@@ -57,7 +57,7 @@ fn run_test<R: Threads + Sync, K: Sink, G: Gate>(
     seat: RoundSeat,
 ) -> Done
     requires board { IsSeatOf stage.now.board.now seat }
-    requires opening { view_of seat ≡ opening }
+    requires unstarted { view_of seat ≡ unstarted }
     ensures board { IsSeatOf stage.now.board.now result.seat }
     ensures answers { AnswersBy (Selftests seed (view_of result.seat)) (view_of result.seat ≡ view_of seat)
         (view_of seat) (view_of result.seat) (K.state output.old) (K.state output.new) result.status }
@@ -112,7 +112,7 @@ fn test_host<R: Threads + Sync>(
 
 // Writes the run, and settles it.
 fn write_test<K: Sink>(output: &mut K, seed: u64, host: &Host, ran: &Ran<'_>) -> Status
-    requires { CanBeTold Report host.now ran.now }
+    requires { IsRunWritable Report host.now ran.now }
     ensures { WritesReply (K.state output.old) (K.state output.new) (Writes (selftest_line seed
         ++ run_text Report host.now [] ran.now.crew.course 4 (kept_stints ran.now) ran.now.report)) result }
 {
@@ -122,7 +122,7 @@ fn write_test<K: Sink>(output: &mut K, seed: u64, host: &Host, ran: &Ran<'_>) ->
 
 // The line of the seed, and the report.
 fn put_test<K: Sink>(sink: &mut K, seed: u64, host: &Host, ran: &Ran<'_>) -> Result<(), WriteFault>
-    requires { CanBeTold Report host.now ran.now }
+    requires { IsRunWritable Report host.now ran.now }
     ensures { Puts (K.state sink.old) (K.state sink.new) (selftest_line seed
         ++ run_text Report host.now [] ran.now.crew.course 4 (kept_stints ran.now) ran.now.report) result }
 {

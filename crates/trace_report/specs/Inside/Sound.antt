@@ -1,7 +1,7 @@
 -- What a report keeps so that no sum in it overflows.
 use Rattle.std.specs.Prelude.{◌≡◌, ℕ, ◌*◌, ◌<◌, ◌≤◌, List, length}
 use Rattle.tab_core.specs.declared.TheConstants.{MAX_CORES, MAX_ROUNDS, MAX_VCPUS, ROUND}
-use Rattle.report_counts.specs.declared.stretch.Stretch.{Stretch}
+use Rattle.run_counts.specs.declared.stretch.Stretch.{Stretch}
 use Rattle.trace_report.specs.declared.ticks.VcpuTicks.{VcpuTicks}
 use Rattle.trace_report.specs.ReportViews.{vcpu_at}
 
@@ -12,7 +12,7 @@ AreWithinCores vcpus count = (v : ℕ) → v < length vcpus
     × ((vcpu_at vcpus v).shared ≤ count * (MAX_ROUNDS * ROUND))
 
 -- a report of these vCPUs, with so many accounts added, and its two lists of stretches
-pub record IsSound (vcpus : List VcpuTicks) (added : ℕ) (round run : List Stretch) : Type 0 where
+pub record IsSoundReport (vcpus : List VcpuTicks) (added : ℕ) (round run : List Stretch) : Type 0 where
   pub few : length vcpus ≤ MAX_VCPUS
   pub added_few : added ≤ MAX_CORES
   pub within : AreWithinCores vcpus added

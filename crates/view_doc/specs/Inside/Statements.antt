@@ -1,6 +1,7 @@
 -- What the reader's statements say.
+use Rattle.tab_words.specs.Texts.{Line}
 use Rattle.view_doc.specs.Lines.{IsPlain, Says, Told, head, task, core, segment, end, cut, entry, stint, posted, report, item, done, nobody, in_slot, in_unused}
-use Rattle.view_doc.specs.Items.{Blank as Form, Line, this, a_number, a_name, any_word}
+use Rattle.view_doc.specs.Items.{Blank as Form, this, a_number, a_name, any_word}
 use Rattle.view_doc.specs.Lines.{Holder as Held}
 use Rattle.view_doc.specs.declared.items.Blank.{Blank}
 use Rattle.view_doc.specs.declared.items.Blank.TheVariants.{This, Number, Name, Any}

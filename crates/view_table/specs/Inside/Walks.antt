@@ -7,29 +7,29 @@ use Rattle.view_doc.specs.declared.view.Stretch.{Stretch}
 use Rattle.view_table.specs.Waits.{is_slot_of, longest, serves, waited}
 
 -- no segment begins before the one before it
-abbrev pub Rise : List Stretch → Type 0
-Rise order = IsNonDecreasingBy (λ (s : Stretch). s.from) order
+abbrev pub SegmentsRise : List Stretch → Type 0
+SegmentsRise order = IsNonDecreasingBy (λ (s : Stretch). s.from) order
 
 -- the segments in the order of their begins, which give every vCPU the same places
 pub record AreByBegin (slots order : List Stretch) : Type 0 where
-  pub rise : Rise order
+  pub rise : SegmentsRise order
   pub same : (v place : ℕ) → list_any (serves v place) order ≡ list_any (serves v place) slots
 
 -- the segment is a slot of the vCPU with a place of the round
-abbrev pub is_due : ℕ → Stretch → Bool
-is_due v s = is_slot_of v s.by && nat_lt s.from (min s.end ROUND)
+abbrev pub is_slot_in_round : ℕ → Stretch → Bool
+is_slot_in_round v s = is_slot_of v s.by && nat_lt s.from (min s.end ROUND)
 
 -- where the slots so far end, and the longest wait before there, once the segment is passed in the round
 -- that begins at `base`
 abbrev pub next_end : ℕ → ℕ → Stretch → ℕ → ℕ
-next_end v base s end = if is_due v s then max end (base + min s.end ROUND) else end
+next_end v base s end = if is_slot_in_round v s then max end (base + min s.end ROUND) else end
 
 abbrev pub next_wait : ℕ → ℕ → Stretch → ℕ → ℕ → ℕ
-next_wait v base s end wait = if is_due v s then max wait (base + s.from - end) else wait
+next_wait v base s end wait = if is_slot_in_round v s then max wait (base + s.from - end) else wait
 
 -- the tick at which that wait ends
 abbrev pub next_mark : ℕ → ℕ → Stretch → ℕ → ℕ → ℕ → ℕ
-next_mark v base s end wait mark = if is_due v s && nat_lt wait (base + s.from - end) then base + s.from else mark
+next_mark v base s end wait mark = if is_slot_in_round v s && nat_lt wait (base + s.from - end) then base + s.from else mark
 
 -- the tick at which that wait ends, after both rounds
 abbrev pub last_mark : ℕ → ℕ → ℕ → ℕ

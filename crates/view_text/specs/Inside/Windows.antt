@@ -3,8 +3,8 @@ use Rattle.std.specs.Prelude.{ℕ, ◌+◌, ◌<◌, ◌≤◌, List, length, sl
 use Rattle.view_lanes.specs.declared.frame.Bar.{Bar}
 
 -- no bar begins before the one before it
-abbrev pub Rise : List Bar → Type 0
-Rise bars = (i : ℕ) (d : Bar) → i + 1 < length bars → (slice_index_or bars i d).from ≤ (slice_index_or bars (i + 1) d).from
+abbrev pub BarsRise : List Bar → Type 0
+BarsRise bars = (i : ℕ) (d : Bar) → i + 1 < length bars → (slice_index_or bars i d).from ≤ (slice_index_or bars (i + 1) d).from
 
 -- the bars before a place have nothing from a tick on
 abbrev pub AreBefore : ℕ → List Bar → ℕ → Type 0

@@ -1,6 +1,6 @@
 use Rattle.std.proofs.Common.{refl}
 use Rattle.std.proofs.lemmas.Option.{MatchOption-at_none, MatchOption-at_some}
-use Rattle.advice.specs.Advice.{IsPlanText, TellsOfLine}
+use Rattle.advice.specs.Advice.{IsPlanLineAdvice, TellsOfLine}
 use Rattle.advice.proofs.AgainLemmas.{no_host_is_told, no_task_is_told}
 use Rattle.advice.proofs.WritesLemmas.{tells_nothing, tells_tasks, writes_such}
 use Rattle.advice.proofs.hosts.put_plan.Goals as goal
@@ -8,7 +8,7 @@ use Rattle.advice.proofs.hosts.put_plan.Goals as goal
 pub returns-in_default : goal.returns-in_default
 returns-in_default g c =
     let none = MatchOption-at_none _ _ c.in_default.is c.in_ok-host.ensures.found in
-    tells_nothing (IsPlanText c.args.section.now c.args.plan.now c.args.line) _
+    tells_nothing (IsPlanLineAdvice c.args.section.now c.args.plan.now c.args.line) _
     (no_host_is_told c.args.section.now (TellsOfLine c.args.plan.now c.args.line) none)
 
 pub returns-in-Some-2 : goal.returns-in-Some-2
@@ -23,5 +23,5 @@ pub returns : goal.returns
 returns g c =
     let is_host = MatchOption-at_some _ _ c.in-Some.host c.in-Some.is c.in_ok-host.ensures.found in
     let none = MatchOption-at_none _ _ c.in-None.is c.in_ok-tasks.ensures.found in
-    tells_nothing (IsPlanText c.args.section.now c.args.plan.now c.args.line) _
+    tells_nothing (IsPlanLineAdvice c.args.section.now c.args.plan.now c.args.line) _
     (no_task_is_told c.args.section.now (TellsOfLine c.args.plan.now c.args.line) c.in-Some.host is_host none)

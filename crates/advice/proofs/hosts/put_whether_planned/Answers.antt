@@ -1,15 +1,15 @@
 use Rattle.std.proofs.Common.{rules, ◌*◌, inl, inr, refl}
 use Rattle.tab_core.specs.declared.TheConstants.{ROUND}
 use Rattle.tab_io.specs.Sinks.{Writes}
-use Rattle.advice.specs.Advice.{HasPlan, TellsOfPlan}
-use Rattle.advice.specs.Room.{due_of, planned_text, unplanned_text}
+use Rattle.advice.specs.Advice.{HostHasPlan, TellsOfPlan}
+use Rattle.advice.specs.Room.{due_of_tasks, planned_text, unplanned_text}
 use Rattle.advice.proofs.WritesLemmas.{writes_such}
 use Rattle.advice.proofs.hosts.put_whether_planned.Goals as goal
 
 pub returns-then-branch : goal.returns-then-branch
 returns-then-branch g c =
-    let has : HasPlan c.args.host.now = c.in_ok-has_plan.ensures.found.0 c.if-branch.true in
-    let text = planned_text (due_of c.args.tasks) (c.args.host.now.cores * ROUND) in
+    let has : HostHasPlan c.args.host.now = c.in_ok-has_plan.ensures.found.0 c.if-branch.true in
+    let text = planned_text (due_of_tasks c.args.tasks) (c.args.host.now.cores * ROUND) in
     let writes : Writes {U = Unit {0}} (g.K.Sink.state c.args.sink.now) (g.K.Sink.state c.put_planned.new.sink)
     text c.put_planned.result = search rules in
     rw c.of_sink.ensures (writes_such (TellsOfPlan c.args.host.now c.args.tasks) text _ _ _
@@ -17,9 +17,9 @@ returns-then-branch g c =
 
 pub returns-else-branch : goal.returns-else-branch
 returns-else-branch g c =
-    let none : ¬ (HasPlan c.args.host.now) = λ has.
+    let none : ¬ (HostHasPlan c.args.host.now) = λ has.
     let no = c.if-branch.false in let yes = c.in_ok-has_plan.ensures.found.1 has in absurd cc in
-    let text = unplanned_text (due_of c.args.tasks) (c.args.host.now.cores * ROUND) in
+    let text = unplanned_text (due_of_tasks c.args.tasks) (c.args.host.now.cores * ROUND) in
     let writes : Writes {U = Unit {0}} (g.K.Sink.state c.args.sink.now) (g.K.Sink.state c.put_unplanned.new.sink)
     text c.put_unplanned.result = search rules in
     rw c.of_sink-else-branch.ensures (writes_such (TellsOfPlan c.args.host.now c.args.tasks) text _ _ _

@@ -1,7 +1,7 @@
 use Rattle.std.proofs.Common.{◌≡◌, ℕ, ◌++◌, List, length, take, sym, ap, subst, ◌∙◌, arith}
 use Rattle.std.proofs.Math.Seq.{take-length}
 use Rattle.table_form.specs.Running.State.{State}
-use Rattle.burst_bound.specs.Inside.Runs.{TellRuns, pieces_of, pieces_on}
+use Rattle.burst_bound.specs.Inside.Runs.{TellRuns, pieces_of, ran_pieces}
 use Rattle.burst_bound.specs.KeptRuns.{IsKeptRun}
 use Rattle.burst_bound.specs.declared.ran.RanPiece.{RanPiece}
 use Rattle.burst_bound.proofs.GatherLemmas.{pieces_on_few, pieces_on_more, pieces_on_room, pieces_tell}
@@ -33,19 +33,19 @@ loop-core-preserved c = record {
   items = λ s kept. (let has = core_here c.before s kept in
       c.add_pieces.ensures.items
       ∙ ap (λ (ps : List RanPiece). ps ++ pieces_of c.stints-stints.result.now) (c.loop-core.invariant.items s kept)
-      ∙ ap (λ ss. pieces_on (take c.loop-core.core s.cores) ++ pieces_of ss) has.stints_are
+      ∙ ap (λ ss. ran_pieces (take c.loop-core.core s.cores) ++ pieces_of ss) has.stints_are
       ∙ sym (pieces_on_more s c.loop-core.core has.core has.at));
   capacity = c.add_pieces.ensures.capacity ∙ c.loop-core.invariant.capacity;
 }
 
 -- at the end all cores' are there
 all_there : (c : goal.After-loop-core) (s : State) → IsKeptRun c.args.course.now c.args.rounds c.args.crew.now s
-    → c.loop-core.pieces.items ≡ pieces_on s.cores
+    → c.loop-core.pieces.items ≡ ran_pieces s.cores
 all_there c s kept =
     let last : c.loop-core.core ≡ length s.cores =
     omega (arith, c.loop-core.auto.core-end, c.loop-core-test.false, c.cores-core-end.ensures.cores, kept.invariant.size) in
     c.loop-core.invariant.items s kept
-    ∙ ap (λ (n : ℕ). pieces_on (take n s.cores)) last ∙ ap pieces_on (take-length s.cores)
+    ∙ ap (λ (n : ℕ). ran_pieces (take n s.cores)) last ∙ ap ran_pieces (take-length s.cores)
 
 pub returns-clause-pieces : goal.returns-clause-pieces
 returns-clause-pieces c = λ s kept. subst (TellRuns c.args.rounds s) (sym (all_there c s kept))

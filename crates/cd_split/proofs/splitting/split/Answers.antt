@@ -7,7 +7,7 @@ use Rattle.std.proofs.lemmas.List.FromFn.{length-range_with_len}
 use Rattle.std.proofs.lemmas.List.Elements.{All-filter}
 use Rattle.std.proofs.lemmas.Option.{MatchOption-at_none, MatchOption-at_some}
 use Rattle.cd_split.specs.Inside.Search.{IsCutPiece, IsHomePiece, IsHomeless, IsUncut, left_of}
-use Rattle.cd_split.specs.Splitting.{IsOverloadWith, IsSplit, Left, Refuses, Splits, all_of, behind, core_numbers, rest_of, without}
+use Rattle.cd_split.specs.Splitting.{IsOverloadWith, IsSplit, Left, Refuses, Splits, all_of, core_numbers, left_after_cut, rest_of, unused_without}
 use Rattle.tab_core.proofs.Lists.{numbers_below}
 use Rattle.cd_split.proofs.SharesLemmas.{splits_apart, splits_cost, splits_fit, splits_follow, splits_of}
 use Rattle.cd_split.proofs.SearchLemmas.{refuses_after_cut, refuses_here, splits_after_cut, splits_at_home}
@@ -135,10 +135,10 @@ loop-pieces-preserved c =
     (MatchOption-at_some (IsUncut cores left c.deref-in-loop-pieces-3.result.now)
     (IsCutPiece cores left c.deref-in-loop-pieces-3.result.now) piece c.in-Some-2.is
     c.in_ok-find_cut.ensures) in
-    let filtered : later ≡ without piece.core unused =
+    let filtered : later ≡ unused_without piece.core unused =
     filter_same _ (λ other. not (other == piece.core)) _
     (λ x b f t. search rules) _ _ c.retain.ensures.filtered in
-    let left_is : left_of c.behind-left.result ≡ behind left piece.cost = c.behind-left.ensures in
+    let left_is : left_of c.behind-left.result ≡ left_after_cut left piece.cost = c.behind-left.ensures in
     record {
       vcpu = ap (λ (l : Left). l.vcpu) left_is ∙ before.vcpu;
       there = subst (All (λ core. core < length cores)) (sym filtered)
@@ -148,7 +148,7 @@ loop-pieces-preserved c =
           (λ other. not (not (other == piece.core))) (λ other. refl) unused in
           omega (arith, ap length filtered, before.few));
       so_far = λ pieces splits. (
-          let next = subst (λ u. Splits cores (behind left piece.cost) u pieces) filtered
+          let next = subst (λ u. Splits cores (left_after_cut left piece.cost) u pieces) filtered
           (subst (λ l. Splits cores l later pieces) left_is splits) in
           let joined : c.loop-pieces.pieces.items ++ piece ∷ pieces
           ≡ c.push-in-Some-2.new.self.items ++ pieces =
@@ -158,6 +158,6 @@ loop-pieces-preserved c =
           (splits_after_cut cores left unused piece pieces homeless cut next)));
       refused = λ rest over refuses. before.refused rest over
           (refuses_after_cut cores left unused piece rest over homeless cut
-          (subst (λ u. Refuses cores (behind left piece.cost) u rest over) filtered
+          (subst (λ u. Refuses cores (left_after_cut left piece.cost) u rest over) filtered
           (subst (λ l. Refuses cores l later rest over) left_is refuses)));
     }

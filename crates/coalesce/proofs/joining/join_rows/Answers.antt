@@ -3,7 +3,7 @@ use Rattle.std.proofs.lemmas.Option.{slice_get-get_or}
 use Rattle.tab_core.specs.VcpuSets.{has_vcpu}
 use Rattle.table_form.specs.Planning.Drafts.{pieces_at}
 use Rattle.coalesce.specs.Joining.{may_have_more}
-use Rattle.coalesce.specs.Inside.Passing.{IsTableOf}
+use Rattle.coalesce.specs.Inside.Passing.{IsPieceTableOf}
 use Rattle.coalesce.proofs.Joined.{JoinedSoFar, joined_by, one_joined}
 use Rattle.coalesce.proofs.joining.join_rows.Goals as goal
 
@@ -14,7 +14,7 @@ loop-core-preserved c =
     let row = c.index-rows-core.result in
     let at = slice_get-get_or c.args.rows.now core row c.loop-core-test.true
     ∙ ap Some (sym c.index-rows-core.is) in
-    let of = subst (IsTableOf (pieces_at pieces core)) (sym c.deref.ensures.value) c.put_pieces.ensures in
+    let of = subst (IsPieceTableOf (pieces_at pieces core)) (sym c.deref.ensures.value) c.put_pieces.ensures in
     let may_grow : (vcpu : ℕ) → has_vcpu c.without-may_grow.result vcpu ≡ may_have_more pieces c.args.capped.now vcpu
     = λ vcpu. c.without-may_grow.ensures vcpu
     ∙ ap (λ b. b && not (has_vcpu c.args.capped.now vcpu)) (c.single_vcpus.ensures vcpu) in

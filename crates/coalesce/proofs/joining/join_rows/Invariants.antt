@@ -1,5 +1,5 @@
 use Rattle.std.proofs.Common.{[]}
-use Rattle.coalesce.specs.Inside.Passing.{IsTableOf}
+use Rattle.coalesce.specs.Inside.Passing.{IsPieceTableOf}
 use Rattle.coalesce.proofs.Joined.{JoinedSoFar}
 use Rattle.coalesce.proofs.joining.join_rows.Given as goal
 
@@ -7,5 +7,5 @@ use Rattle.coalesce.proofs.joining.join_rows.Given as goal
 abbrev pub invariant-loop-core : goal.invariant-loop-core
 invariant-loop-core l = record {
   joined : JoinedSoFar l.pieces l.capped l.sliver l.rows l.core l.joined.items;
-  none : IsTableOf [] l.table.items;
+  none : IsPieceTableOf [] l.table.items;
 }

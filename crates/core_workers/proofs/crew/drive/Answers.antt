@@ -9,7 +9,7 @@ use Rattle.dispatch_core.specs.States.{ActorView}
 use Rattle.core_workers.specs.Actors.{core_kind, lead_kind}
 use Rattle.core_workers.specs.Crews.{AllAgree, HeldFinished, HoldsAll, IsSameCrew}
 use Rattle.core_workers.specs.Views.{CrewView, crew_view}
-use Rattle.core_workers.specs.Waiting.{AreAtRest}
+use Rattle.core_workers.specs.Waiting.{IsCrewAtRest}
 use Rattle.core_workers.specs.Inside.Players.{ArePlayers}
 use Rattle.core_workers.proofs.CrewLemmas.{held_on}
 use Rattle.core_workers.proofs.PlayersLemmas.{agree_again, agreed, at_rest, crew_same, players_crew, players_on, players_whole}
@@ -60,7 +60,7 @@ returns-clause-rests g c =
     let are = players_on x.course.now x.rounds x.cores.items x.lead c.crew.invariant c.drive_all.new.cores c.drive_all.new.lead on in
     let v : View = view_of c.args.seat.now in
     let w : View = view_of c.drive_all.new.seat in
-    subst (λ (ps : List (Player ActorView)). AreAtRest (crew_view x.course.now x.rounds ps c.drive_all.new.lead) v w) (sym is)
+    subst (λ (ps : List (Player ActorView)). IsCrewAtRest (crew_view x.course.now x.rounds ps c.drive_all.new.lead) v w) (sym is)
     (at_rest x.course.now x.rounds c.drive_all.new.cores c.drive_all.new.lead are v w (agree_again x.course.now x.rounds c.drive_all.new.cores c.drive_all.new.lead are w c.drive_all.ensures.agreed) c.drive_all.ensures.rests)
 
 pub returns-clause-finished : goal.returns-clause-finished

@@ -2,7 +2,7 @@ use Rattle.std.proofs.Common.{◌⊎◌, ◌<◌, ◌≤◌, ◌+◌, ◌*◌}
 use Rattle.round_words.specs.Seats.{view_of, IsSeatOf}
 use Rattle.crew_turns.specs.Going.{PartsGoOn, SameActors}
 use Rattle.crew_turns.specs.Inside.Clocks.{AreTicks, IsPosting}
-use Rattle.crew_turns.specs.Inside.Turns.{left_of}
+use Rattle.crew_turns.specs.Inside.Turns.{left_to_do}
 use Rattle.crew_turns.specs.Troops.{AreAgreed, AreAtRest, AreSame}
 use Rattle.crew_turns.proofs.driving.drive_all.Given as goal
 
@@ -20,4 +20,4 @@ invariant-driving g l = record {
 }
 
 abbrev pub decreases-driving : goal.decreases-driving
-decreases-driving g l = left_of g.L.Stepper.kind l.roster.ticks l.lead l.roster.posting * 10000001 + l.left
+decreases-driving g l = left_to_do g.L.Stepper.kind l.roster.ticks l.lead l.roster.posting * 10000001 + l.left

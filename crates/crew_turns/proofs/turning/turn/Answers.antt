@@ -1,15 +1,15 @@
 use Rattle.std.proofs.Common.{Bool, sym, ◌∙◌, subst}
 use Rattle.round_words.specs.Seats.{view_of}
 use Rattle.crew_turns.specs.declared.turning.Progress.{Progress}
-use Rattle.crew_turns.specs.Inside.Turns.{TurnTold, left_of, or_stops, or_waits}
+use Rattle.crew_turns.specs.Inside.Turns.{TurnTold, left_to_do, or_stops, or_waits}
 use Rattle.crew_turns.proofs.TurnLemmas.{end_agreed, end_parts, end_ticks, lead_agrees, mid_agreed, told_over, told_stops, told_waits}
 use Rattle.crew_turns.proofs.turning.turn.Goals as goal
 
 pub returns-then-not-roster-clause-told : goal.returns-then-not-roster-clause-told
 returns-then-not-roster-clause-told g c =
     let same = c.turn_cores-progress.ensures.posting in
-    subst (λ (b : Bool). TurnTold g.C.Stepper.kind g.L.Stepper.kind (left_of g.L.Stepper.kind c.args.roster.now.ticks c.args.lead.now c.args.roster.now.posting) (view_of c.args.seat.now)
-    c.turn_cores-progress.result c.turn_cores-progress.new.cores c.args.lead.now (left_of g.L.Stepper.kind c.turn_cores-progress.new.roster.ticks c.args.lead.now b) (view_of c.turn_cores-progress.new.seat)) (sym same)
+    subst (λ (b : Bool). TurnTold g.C.Stepper.kind g.L.Stepper.kind (left_to_do g.L.Stepper.kind c.args.roster.now.ticks c.args.lead.now c.args.roster.now.posting) (view_of c.args.seat.now)
+    c.turn_cores-progress.result c.turn_cores-progress.new.cores c.args.lead.now (left_to_do g.L.Stepper.kind c.turn_cores-progress.new.roster.ticks c.args.lead.now b) (view_of c.turn_cores-progress.new.seat)) (sym same)
     (told_over g.C.Stepper.kind g.L.Stepper.kind g.C.Stepper.lawful g.L.Stepper.lawful c.args.cores.now c.turn_cores-progress.new.cores c.args.lead.now
     c.args.roster.now.ticks c.turn_cores-progress.new.roster.ticks c.args.roster.now.posting (view_of c.args.seat.now) (view_of c.turn_cores-progress.new.seat)
     c.requires.agreed c.requires.posting c.turn_cores-progress.ensures.cores c.turn_cores-progress.ensures.ticks c.turn_cores-progress.ensures.goes (sym same ∙ c.if-not-roster.true) c.turn_cores-progress.result c.turn_cores-progress.ensures.told)
@@ -82,10 +82,10 @@ pub returns-in-Waits-clause-told : goal.returns-in-Waits-clause-told
 returns-in-Waits-clause-told g c =
     let same = c.turn_cores-progress.ensures.posting in
     let told = c.in-Waits.ensures.told in
-    subst (λ (p : Progress). TurnTold g.C.Stepper.kind g.L.Stepper.kind (left_of g.L.Stepper.kind c.args.roster.now.ticks c.args.lead.now c.args.roster.now.posting) (view_of c.args.seat.now)
-    p c.turn_cores-progress.new.cores c.step_player.new.player (left_of g.L.Stepper.kind c.turn_cores-progress.new.roster.ticks c.step_player.new.player c.turn_cores-progress.new.roster.posting) (view_of c.step_player.new.seat)) (sym c.or_waits.ensures)
-    (subst (λ (b : Bool). TurnTold g.C.Stepper.kind g.L.Stepper.kind (left_of g.L.Stepper.kind c.args.roster.now.ticks c.args.lead.now c.args.roster.now.posting) (view_of c.args.seat.now)
-    (or_waits c.turn_cores-progress.result) c.turn_cores-progress.new.cores c.step_player.new.player (left_of g.L.Stepper.kind c.turn_cores-progress.new.roster.ticks c.step_player.new.player b) (view_of c.step_player.new.seat)) (sym same)
+    subst (λ (p : Progress). TurnTold g.C.Stepper.kind g.L.Stepper.kind (left_to_do g.L.Stepper.kind c.args.roster.now.ticks c.args.lead.now c.args.roster.now.posting) (view_of c.args.seat.now)
+    p c.turn_cores-progress.new.cores c.step_player.new.player (left_to_do g.L.Stepper.kind c.turn_cores-progress.new.roster.ticks c.step_player.new.player c.turn_cores-progress.new.roster.posting) (view_of c.step_player.new.seat)) (sym c.or_waits.ensures)
+    (subst (λ (b : Bool). TurnTold g.C.Stepper.kind g.L.Stepper.kind (left_to_do g.L.Stepper.kind c.args.roster.now.ticks c.args.lead.now c.args.roster.now.posting) (view_of c.args.seat.now)
+    (or_waits c.turn_cores-progress.result) c.turn_cores-progress.new.cores c.step_player.new.player (left_to_do g.L.Stepper.kind c.turn_cores-progress.new.roster.ticks c.step_player.new.player b) (view_of c.step_player.new.seat)) (sym same)
     (told_waits g.C.Stepper.kind g.L.Stepper.kind g.C.Stepper.lawful g.L.Stepper.lawful c.args.cores.now c.turn_cores-progress.new.cores c.args.lead.now
     c.args.roster.now.ticks c.turn_cores-progress.new.roster.ticks c.args.roster.now.posting (view_of c.args.seat.now) (view_of c.turn_cores-progress.new.seat)
     c.requires.agreed c.requires.posting c.turn_cores-progress.ensures.cores c.turn_cores-progress.ensures.ticks c.turn_cores-progress.ensures.goes
@@ -95,10 +95,10 @@ pub returns-in-Stopped-clause-told : goal.returns-in-Stopped-clause-told
 returns-in-Stopped-clause-told g c =
     let same = c.turn_cores-progress.ensures.posting in
     let told = c.in-Stopped.ensures.told in
-    subst (λ (p : Progress). TurnTold g.C.Stepper.kind g.L.Stepper.kind (left_of g.L.Stepper.kind c.args.roster.now.ticks c.args.lead.now c.args.roster.now.posting) (view_of c.args.seat.now)
-    p c.turn_cores-progress.new.cores c.step_player.new.player (left_of g.L.Stepper.kind c.turn_cores-progress.new.roster.ticks c.step_player.new.player c.turn_cores-progress.new.roster.posting) (view_of c.step_player.new.seat)) (sym c.or_stops.ensures)
-    (subst (λ (b : Bool). TurnTold g.C.Stepper.kind g.L.Stepper.kind (left_of g.L.Stepper.kind c.args.roster.now.ticks c.args.lead.now c.args.roster.now.posting) (view_of c.args.seat.now)
-    (or_stops c.turn_cores-progress.result) c.turn_cores-progress.new.cores c.step_player.new.player (left_of g.L.Stepper.kind c.turn_cores-progress.new.roster.ticks c.step_player.new.player b) (view_of c.step_player.new.seat)) (sym same)
+    subst (λ (p : Progress). TurnTold g.C.Stepper.kind g.L.Stepper.kind (left_to_do g.L.Stepper.kind c.args.roster.now.ticks c.args.lead.now c.args.roster.now.posting) (view_of c.args.seat.now)
+    p c.turn_cores-progress.new.cores c.step_player.new.player (left_to_do g.L.Stepper.kind c.turn_cores-progress.new.roster.ticks c.step_player.new.player c.turn_cores-progress.new.roster.posting) (view_of c.step_player.new.seat)) (sym c.or_stops.ensures)
+    (subst (λ (b : Bool). TurnTold g.C.Stepper.kind g.L.Stepper.kind (left_to_do g.L.Stepper.kind c.args.roster.now.ticks c.args.lead.now c.args.roster.now.posting) (view_of c.args.seat.now)
+    (or_stops c.turn_cores-progress.result) c.turn_cores-progress.new.cores c.step_player.new.player (left_to_do g.L.Stepper.kind c.turn_cores-progress.new.roster.ticks c.step_player.new.player b) (view_of c.step_player.new.seat)) (sym same)
     (told_stops g.C.Stepper.kind g.L.Stepper.kind g.C.Stepper.lawful g.L.Stepper.lawful c.args.cores.now c.turn_cores-progress.new.cores c.args.lead.now
     c.args.roster.now.ticks c.turn_cores-progress.new.roster.ticks c.args.roster.now.posting (view_of c.args.seat.now) (view_of c.turn_cores-progress.new.seat)
     c.requires.agreed c.requires.posting c.turn_cores-progress.ensures.cores c.turn_cores-progress.ensures.ticks c.turn_cores-progress.ensures.goes

@@ -4,7 +4,7 @@ use Rattle.tab_core.specs.declared.stint.Stint.{Stint}
 use Rattle.tab_core.proofs.Alike.{same_stint}
 use Rattle.round_words.specs.declared.view.Part.{Part}
 use Rattle.round_words.specs.declared.view.View.{View}
-use Rattle.round_words.specs.Views.{part, runs}
+use Rattle.round_words.specs.Views.{part, with_stint}
 use Rattle.round_words.specs.Seats.{view_of}
 use Rattle.round_words.proofs.ListLemmas.{some_same}
 use Rattle.round_words.proofs.ChangesLemmas.{part_with}
@@ -22,4 +22,4 @@ returns-clause-becomes c =
     let one : next.entry ≡ is.entry = some_same next.entry is.entry (sym next.entered ∙ is.entered) in
     let same : s ≡ t = same_stint s t (next.from ∙ sym is.from) next.end (next.seen ∙ sym is.seen)
     (next.used ∙ (ap (λ (e : Entry). e.used) one ∙ sym is.used)) next.ran in
-    part_with v _ c.args.core _ c.requires.core.0.1 told.2 ∙ ap (runs p) same
+    part_with v _ c.args.core _ c.requires.core.0.1 told.2 ∙ ap (with_stint p) same

@@ -5,7 +5,7 @@ use Rattle.table_form.proofs.CourseLemmas.{in_course}
 use Rattle.round_words.specs.Seats.{view_of}
 use Rattle.round_words.specs.Views.{part}
 use Rattle.dispatch_core.specs.declared.answer.Ended.TheVariants.{Ran, Behind}
-use Rattle.dispatch_core.specs.States.{FollowsPlans, Stands}
+use Rattle.dispatch_core.specs.States.{AgreesWithoutPlan, FollowsPlans}
 use Rattle.dispatch_core.specs.Told.{EndTold}
 use Rattle.dispatch_core.proofs.stepping.finish.Goals as goal
 
@@ -16,7 +16,7 @@ returns-in-Ran-clause-agrees c =
     let p = part (view_of c.args.seat.now) core in
     let of = c.requires.slices.each (plan_number_after course c.args.used) c.table_after-table.result.now c.table_after-table.ensures in
     let e = c.in-Ran.ensures in record {
-      stands = subst (λ (o : OutlineView). Stands o c.end_step.new.state (view_of c.end_step.new.seat)) (sym c.outline.ensures.outline) e.stands;
+      stands = subst (λ (o : OutlineView). AgreesWithoutPlan o c.end_step.new.state (view_of c.end_step.new.seat)) (sym c.outline.ensures.outline) e.stands;
       plans = subst (λ (i : ℕ). FollowsPlans course c.end_step.new.state (part (view_of c.end_step.new.seat) i)) (sym e.same.core)
           (in_course course c.outline.result.now c.args.used (plan_after course c.args.used)
           (λ (x : CourseView). FollowsPlans x c.args.state.now p → FollowsPlans x c.end_step.new.state (part (view_of c.end_step.new.seat) core))
@@ -40,7 +40,7 @@ returns-in-Behind-clause-agrees c =
     let p = part (view_of c.args.seat.now) core in
     let of = c.requires.slices.each (plan_number_after course c.args.used) c.table_after-table.result.now c.table_after-table.ensures in
     let e = c.in-Behind.ensures in record {
-      stands = subst (λ (o : OutlineView). Stands o c.end_step.new.state (view_of c.end_step.new.seat)) (sym c.outline.ensures.outline) e.stands;
+      stands = subst (λ (o : OutlineView). AgreesWithoutPlan o c.end_step.new.state (view_of c.end_step.new.seat)) (sym c.outline.ensures.outline) e.stands;
       plans = subst (λ (i : ℕ). FollowsPlans course c.end_step.new.state (part (view_of c.end_step.new.seat) i)) (sym e.same.core)
           (in_course course c.outline.result.now c.args.used (plan_after course c.args.used)
           (λ (x : CourseView). FollowsPlans x c.args.state.now p → FollowsPlans x c.end_step.new.state (part (view_of c.end_step.new.seat) core))

@@ -2,7 +2,7 @@ use Rattle.std.proofs.Common.{◌≤◌, ◌*◌, ◌/◌, ℕ, subst, ap, arith
 use Rattle.std.proofs.lemmas.List.{get_or_read, take_all}
 use Rattle.tab_core.specs.declared.TheConstants.{ROUND}
 use Rattle.tab_core.specs.declared.piece.Piece.{Piece}
-use Rattle.edf_table.specs.Load.{AreUnsplit, IsUnsplit, load}
+use Rattle.edf_table.specs.Load.{AreUnsplit, IsUnsplit, load_of_pieces}
 use Rattle.edf_table.proofs.LoadLemmas.{all_unsplit_more, load_more, unsplit_fits}
 use Rattle.edf_table.proofs.light.are_unsplit_and_light.Goals as goal
 
@@ -27,4 +27,4 @@ returns c told =
     let ps = c.args.pieces.now in
     let all = take_all c.loop-piece.piece-index ps (omega arith) in
     unsplit_fits ps (subst AreUnsplit all c.loop-piece.invariant.whole)
-    (subst (λ qs. load qs ≤ ROUND) all (omega arith))
+    (subst (λ qs. load_of_pieces qs ≤ ROUND) all (omega arith))

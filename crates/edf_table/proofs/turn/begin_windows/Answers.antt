@@ -2,7 +2,7 @@ use Rattle.std.proofs.Common.{◌≡◌, ◌+◌, ◌-◌, ◌*◌, ◌<◌, ◌
 use Rattle.std.proofs.lemmas.List.{get_or_default, get_or_read}
 use Rattle.tab_core.specs.declared.TheConstants.{MAX_VCPUS}
 use Rattle.tab_core.specs.declared.piece.Piece.{Piece}
-use Rattle.edf_table.specs.Inside.Progress.{IsKept, goal_of}
+use Rattle.edf_table.specs.Inside.Progress.{IsPieceKept, goal_of}
 use Rattle.edf_table.proofs.Kept.{begun_more, kept_ahead, kept_next, some_piece}
 use Rattle.edf_table.proofs.PendingJobs.{begun_job, idle_piece, pending_added, room_to_begin, timely_added}
 use Rattle.edf_table.proofs.Turns.{short_period, some_period}
@@ -19,8 +19,8 @@ loop-i-preserved c =
     let count = c.loop-i.count in
     let in_ps : i < length ps = c.loop-i-test.true in
     let in_ns : i < length ns = omega (arith, c.requires.a_begin_each, c.loop-i.invariant.a_begin_each) in
-    let before : (d : Piece) → IsKept (get_or ps i d) tick tick (get_or ns i 0) =
-    λ d. subst (IsKept (get_or ps i d) tick tick)
+    let before : (d : Piece) → IsPieceKept (get_or ps i d) tick tick (get_or ns i 0) =
+    λ d. subst (IsPieceKept (get_or ps i d) tick tick)
     (sym (c.loop-i.invariant.rest i (omega arith))) (c.requires.under_way.kept i d in_ps) in
     elim c.if-begins-i.branch [
       | then-begins-i w ↦
@@ -38,11 +38,11 @@ loop-i-preserved c =
             a_place_each = w.add.ensures.a_place_each ∙ c.loop-i.invariant.a_place_each;
             kept = begun_more ps ns (set ns i after) i tick (tick + 1) (tick + 1) c.loop-i.invariant.kept
                 (omega arith) (λ k lt. get_or-set_other ns i k after 0 (omega arith))
-                (λ d. subst (IsKept (get_or ps i d) (tick + 1) (tick + 1))
+                (λ d. subst (IsPieceKept (get_or ps i d) (tick + 1) (tick + 1))
                 (sym (get_or-set_same ns i after 0 in_ns))
                 (kept_ahead (get_or ps i d) (tick + 1) (tick + 1) after (tick + 1) after
                 (kept_next (get_or ps i d) tick after
-                (subst (IsKept (get_or ps i d) tick tick) here (before d))
+                (subst (IsPieceKept (get_or ps i d) tick tick) here (before d))
                 (after_is d)) (omega arith) (omega (arith, some_period (get_or ps i q)))));
             rest = λ k le. get_or-set_other ns i k after 0 (omega arith)
                 ∙ c.loop-i.invariant.rest k (omega arith);
@@ -97,7 +97,7 @@ add-requires c =
       arith,
       room_to_begin c.args.pieces.now gs c.loop-i.begins c.loop-i.jobs c.loop-i.count tick i p
           c.requires.distinct
-          (subst (IsKept (get_or c.args.pieces.now i p) tick tick)
+          (subst (IsPieceKept (get_or c.args.pieces.now i p) tick tick)
           (sym (c.loop-i.invariant.rest i (omega arith)))
           (c.requires.under_way.kept i p c.loop-i-test.true)) c.if-begins-i.true c.loop-i-test.true
           (c.loop-i.invariant.pending gs c.requires.under_way.pending) c.loop-i.invariant.timely,
@@ -115,7 +115,7 @@ overflow_add-count c =
       arith,
       room_to_begin c.args.pieces.now gs c.loop-i.begins c.loop-i.jobs c.loop-i.count tick i p
           c.requires.distinct
-          (subst (IsKept (get_or c.args.pieces.now i p) tick tick)
+          (subst (IsPieceKept (get_or c.args.pieces.now i p) tick tick)
           (sym (c.loop-i.invariant.rest i (omega arith)))
           (c.requires.under_way.kept i p c.loop-i-test.true)) c.if-begins-i.true c.loop-i-test.true
           (c.loop-i.invariant.pending gs c.requires.under_way.pending) c.loop-i.invariant.timely,

@@ -6,7 +6,7 @@ use Rattle.std.proofs.lemmas.List.{with_items_is}
 use Rattle.std.specs.Vec.{with_items}
 use Rattle.fleet_place.specs.Deals.{Deal, IsPlacing}
 use Rattle.fleet_place.specs.Held.{all_held}
-use Rattle.fleet_place.specs.Order.{IsFallingOrder}
+use Rattle.fleet_place.specs.Order.{IsFallingVmOrder}
 use Rattle.fleet_place.specs.Stays.{NoHost, Stay}
 use Rattle.fleet_place.proofs.PlaceLemmas.{placing_cores, placing_fits, placing_keeps}
 use Rattle.fleet_place.proofs.StayLemmas.{FitsItself, group_cores, group_vms, held_cores}
@@ -35,7 +35,7 @@ returns-clause-cores g c =
       stay = subst (λ gs. Stay c.args.tick_ns gs c.loop-group.hosts.items c.loop-group.pool.items)
           (take_all c.loop-group.group-index c.args.groups.now (omega (arith, test))) c.loop-group.invariant;
       order = c.put_in_order.new.vms.items;
-      falling = subst (λ vms. IsFallingOrder vms c.put_in_order.new.vms.items)
+      falling = subst (λ vms. IsFallingVmOrder vms c.put_in_order.new.vms.items)
           c.in_ok-extend_from_slice.ensures.items c.in_ok-put_in_order.ensures;
       deal = subst (λ start. Deal c.args.tick_ns start c.put_in_order.new.vms.items c.deal.new.hosts c.in_ok-left.left.items)
           c.deref_mut.ensures.value
@@ -57,7 +57,7 @@ returns-clause-each g c =
       stay = subst (λ gs. Stay c.args.tick_ns gs c.loop-group.hosts.items c.loop-group.pool.items)
           (take_all c.loop-group.group-index c.args.groups.now (omega (arith, test))) c.loop-group.invariant;
       order = c.put_in_order.new.vms.items;
-      falling = subst (λ vms. IsFallingOrder vms c.put_in_order.new.vms.items)
+      falling = subst (λ vms. IsFallingVmOrder vms c.put_in_order.new.vms.items)
           c.in_ok-extend_from_slice.ensures.items c.in_ok-put_in_order.ensures;
       deal = subst (λ start. Deal c.args.tick_ns start c.put_in_order.new.vms.items c.deal.new.hosts c.in_ok-left.left.items)
           c.deref_mut.ensures.value
@@ -80,7 +80,7 @@ returns-clause-fits g c =
       stay = subst (λ gs. Stay c.args.tick_ns gs c.loop-group.hosts.items c.loop-group.pool.items)
           (take_all c.loop-group.group-index c.args.groups.now (omega (arith, test))) c.loop-group.invariant;
       order = c.put_in_order.new.vms.items;
-      falling = subst (λ vms. IsFallingOrder vms c.put_in_order.new.vms.items)
+      falling = subst (λ vms. IsFallingVmOrder vms c.put_in_order.new.vms.items)
           c.in_ok-extend_from_slice.ensures.items c.in_ok-put_in_order.ensures;
       deal = subst (λ start. Deal c.args.tick_ns start c.put_in_order.new.vms.items c.deal.new.hosts c.in_ok-left.left.items)
           c.deref_mut.ensures.value

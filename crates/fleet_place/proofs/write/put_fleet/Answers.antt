@@ -1,6 +1,6 @@
 use Rattle.std.proofs.Common.{◌≡◌, ◌≤◌, ap, arith, get_or, length, sym, ◌∙◌}
 use Rattle.std.proofs.lemmas.List.Sums.{sum_by_more}
-use Rattle.fleet_place.specs.Held.{Held, count_of, load_of}
+use Rattle.fleet_place.specs.Held.{Held, load_of_vms, vcpu_count_of}
 use Rattle.fleet_place.proofs.HeldLemmas.{length_count}
 use Rattle.fleet_place.proofs.write.put_fleet.Goals as goal
 
@@ -14,9 +14,9 @@ loop-host-preserved g c =
     let was = c.loop-host.invariant in
     let cores_of : c.from.result ≡ held.cores = c.from.ensures ∙ c.cores.ensures.value in
     let vms_of : length c.vms.result.now ≡ length held.vms = ap length c.vms.ensures in
-    let vcpus_of : c.from-in-loop-host.result ≡ count_of held.vms = c.from-in-loop-host.ensures ∙ c.vcpus.ensures.value in
-    let load : c.load.result ≡ load_of held.vms = c.load.ensures.value in
-    let at_least : length held.vms ≤ count_of held.vms = length_count held.vms in
+    let vcpus_of : c.from-in-loop-host.result ≡ vcpu_count_of held.vms = c.from-in-loop-host.ensures ∙ c.vcpus.ensures.value in
+    let load : c.load.result ≡ load_of_vms held.vms = c.load.ensures.value in
+    let at_least : length held.vms ≤ vcpu_count_of held.vms = length_count held.vms in
     let some = c.cores.ensures.some in
     let few = c.cores.ensures.few in
     let cores_value = c.cores.ensures.value in
@@ -35,8 +35,8 @@ loop-host-preserved g c =
     record {
       cores = omega (arith, was_cores, cores_of, sum_by_more (λ (h : Held). h.cores) hosts i held low, ap (λ (h : Held). h.cores) is);
       vms = omega (arith, was_vms, vms_of, sum_by_more (λ (h : Held). length h.vms) hosts i held low, ap (λ (h : Held). length h.vms) is);
-      vcpus = omega (arith, was_vcpus, vcpus_of, sum_by_more (λ (h : Held). count_of h.vms) hosts i held low, ap (λ (h : Held). count_of h.vms) is);
-      load = omega (arith, was_load, load, sum_by_more (λ (h : Held). load_of h.vms) hosts i held low, ap (λ (h : Held). load_of h.vms) is);
+      vcpus = omega (arith, was_vcpus, vcpus_of, sum_by_more (λ (h : Held). vcpu_count_of h.vms) hosts i held low, ap (λ (h : Held). vcpu_count_of h.vms) is);
+      load = omega (arith, was_load, load, sum_by_more (λ (h : Held). load_of_vms h.vms) hosts i held low, ap (λ (h : Held). load_of_vms h.vms) is);
       some = omega (arith, was_some, some, cores_of, cores_value);
       few_cores = omega (arith, was_few_cores, few, cores_of, cores_value);
       few_vms = omega (arith, was_few_vms, vms_of, vcpus_of, at_least);

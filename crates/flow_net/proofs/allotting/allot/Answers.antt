@@ -2,7 +2,7 @@ use Rattle.std.proofs.Common.{◌≡◌, ℕ, List, Option, ◌+◌, ◌*◌, �
 use Rattle.tab_core.specs.declared.periodic.Periodic.{Periodic}
 use Rattle.flow_net.specs.Load.{Load}
 use Rattle.flow_net.specs.Flows.{IsNet, all_lacks}
-use Rattle.flow_net.specs.Networks.{DemandsView, IsNetwork, NetView, lacks_of, load}
+use Rattle.flow_net.specs.Networks.{DemandsView, IsNetwork, NetView, lacks_of, load_of_view}
 use Rattle.flow_net.specs.Counts.{edges, admitted}
 use Rattle.flow_net.specs.Allotments.{AreMarks, IsAllotment, load_of_tasks, period_of_task}
 use Rattle.flow_net.proofs.Allots.{allotted}
@@ -13,13 +13,13 @@ use Rattle.flow_net.proofs.allotting.allot.Goals as goal
 ended : (tasks : List (Option Periodic)) (cores : ℕ) (old new : NetView) (marks : List ℕ)
     (rows : List (List ℕ))
     → new.demands ≡ old.demands → IsNetwork new
-    → load old.demands ≡ load_of_tasks tasks old.demands.marks cores
+    → load_of_view old.demands ≡ load_of_tasks tasks old.demands.marks cores
     → AreMarks (map period_of_task tasks) old.demands.marks
     → lacks_of new ≡ 0 → marks ≡ new.demands.marks → rows ≡ new.rows
     → IsAllotment tasks cores (record { marks = marks; ticks = rows })
 ended tasks cores old new marks rows same net is_load are none m r =
     let l = load_of_tasks tasks old.demands.marks cores in
-    let is : load new.demands ≡ l = ap (λ (d : DemandsView). load d) same ∙ is_load in
+    let is : load_of_view new.demands ≡ l = ap (λ (d : DemandsView). load_of_view d) same ∙ is_load in
     let flow : IsNet l new.rows new.lacks new.room l.count
     = subst (λ (k : Load). IsNet k new.rows new.lacks new.room k.count) is net.flow_ok in
     let none' : all_lacks l new.lacks ≡ 0 = subst (λ (k : Load). all_lacks k new.lacks ≡ 0) is none in
@@ -36,10 +36,10 @@ returns-clause-allotment g c =
 
 -- the cost of the network is that of the tasks, by whichever list of marks
 costs : (tasks : List (Option Periodic)) (cores : ℕ) (net : NetView) (marks : List ℕ) (s s0 : ℕ)
-    → load net.demands ≡ load_of_tasks tasks net.demands.marks cores
+    → load_of_view net.demands ≡ load_of_tasks tasks net.demands.marks cores
     → AreMarks (map period_of_task tasks) net.demands.marks
     → AreMarks (map period_of_task tasks) marks
-    → s ≤ s0 + 2 * (admitted (load net.demands) * (load net.demands).count) * edges (load net.demands)
+    → s ≤ s0 + 2 * (admitted (load_of_view net.demands) * (load_of_view net.demands).count) * edges (load_of_view net.demands)
     → (let l = load_of_tasks tasks marks cores in s ≤ s0 + 2 * (admitted l * l.count) * edges l)
 costs tasks cores net marks s s0 is of of' cost =
     let same = marks_unique (map period_of_task tasks) net.demands.marks marks of of' in

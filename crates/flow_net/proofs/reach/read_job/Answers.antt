@@ -2,7 +2,7 @@ use Rattle.std.proofs.Common.{◌≡◌, ℕ, ◌<◌, ◌≤◌, arith, ◌∙�
 use Rattle.flow_net.specs.declared.demands.Demands.{Demands}
 use Rattle.flow_net.specs.Load.{job, Window}
 use Rattle.flow_net.specs.Inside.Demanded.{load}
-use Rattle.flow_net.specs.Inside.Reach.{IsReading}
+use Rattle.flow_net.specs.Inside.Reach.{AreEdgesRead}
 use Rattle.flow_net.specs.Inside.Reaching.{reached_of}
 use Rattle.flow_net.proofs.Moves.{Raised}
 use Rattle.flow_net.proofs.Nets.{raised_rows}
@@ -73,9 +73,9 @@ loop-j-preserved g c =
 -- all edges were read
 read_whole : (d : Demands) (from until j : ℕ) → (u : ℕ) → (q q' : _) → from < until → from ≤ j
     → (from ≤ until → j ≤ until) → until ≤ j
-    → IsReading (load d) q q' u from j → IsReading (load d) q q' u from until
+    → AreEdgesRead (load d) q q' u from j → AreEdgesRead (load d) q q' u from until
 read_whole d from until j u q q' some a b e r = let same : j
-    ≡ until = omega (arith, b (omega arith), e) in subst (IsReading (load d) q q' u from) same r
+    ≡ until = omega (arith, b (omega arith), e) in subst (AreEdgesRead (load d) q q' u from) same r
 
 pub returns-clause-jobwise : goal.returns-clause-jobwise
 returns-clause-jobwise g c =

@@ -1,5 +1,5 @@
 use Rattle.std.proofs.Common.{rules, ◌≡◌, length, refl, ap, ◌∙◌, arith, length-append}
-use Rattle.host_gen.specs.GeneratorWords.{state_after, word_of}
+use Rattle.host_gen.specs.GeneratorWords.{state_after, word_of_state}
 use Rattle.host_gen.proofs.GeneratedLemmas.{admitted, distinct, generated_next, generated_none, state_at-more, state_at-zero, with_words}
 use Rattle.host_gen.proofs.generator.generate.Goals as goal
 
@@ -20,8 +20,8 @@ loop-number-preserved c =
       state = rw (state_at-more c.args.seed c.loop-number.number)
           (c.take_word-second.ensures.state ∙ ap state_after first);
       each = rw items (generated_next _ _ c.loop-number.number _ _ before.size before.each
-          (with_words _ _ _ _ _ _ _ (c.take_word-first.ensures.word ∙ ap word_of before.state)
-          (c.take_word-second.ensures.word ∙ ap word_of first) c.in_ok-vcpu_of.ensures));
+          (with_words _ _ _ _ _ _ _ (c.take_word-first.ensures.word ∙ ap word_of_state before.state)
+          (c.take_word-second.ensures.word ∙ ap word_of_state first) c.in_ok-vcpu_of.ensures));
     }
 
 pub of-requires-clause-distinct : goal.of-requires-clause-distinct

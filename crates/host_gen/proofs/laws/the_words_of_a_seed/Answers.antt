@@ -1,11 +1,11 @@
 use Rattle.std.proofs.Common.{refl}
-use Rattle.host_gen.specs.GeneratorWords.{state_after, state_at, word_of}
+use Rattle.host_gen.specs.GeneratorWords.{generator_state_at, state_after, word_of_state}
 use Rattle.host_gen.proofs.laws.the_words_of_a_seed.Goals as goal
 
 pub returns-clause-first : goal.returns-clause-first
-unfolding word_of state_at
+unfolding word_of_state generator_state_at
 returns-clause-first c = refl
 
 pub returns-clause-second : goal.returns-clause-second
-unfolding word_of state_at state_after
+unfolding word_of_state generator_state_at state_after
 returns-clause-second c = refl

@@ -1,11 +1,11 @@
 use Rattle.std.proofs.Common.{◌++◌, ap, refl, sym, ◌∙◌, []}
 use Rattle.std.proofs.lemmas.Option.{slice_get_read}
-use Rattle.live_plan.specs.Books.{with_change}
+use Rattle.live_plan.specs.Books.{with_edits}
 use Rattle.live_plan.proofs.BooksLemmas.{edits_more}
 use Rattle.live_plan.proofs.making.changes_of.Goals as goal
 
 pub loop-event-preserved : goal.loop-event-preserved
 loop-event-preserved c =
     let at = slice_get_read c.args.events.now _ c.loop-event.event-index c.event-item.result refl c.loop-event-test.true c.event-item.is in
-    c.in_ok-push_change.ensures ∙ ap (λ es. es ++ with_change c.event-item.result.act []) c.loop-event.invariant
+    c.in_ok-push_change.ensures ∙ ap (λ es. es ++ with_edits c.event-item.result.act []) c.loop-event.invariant
     ∙ sym (edits_more c.args.events.now c.loop-event.event-index c.event-item.result at)

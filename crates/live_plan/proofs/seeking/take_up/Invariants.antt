@@ -1,5 +1,5 @@
 use Rattle.std.proofs.Common.{◌≡◌}
-use Rattle.live_plan.specs.Inside.Seeking.{IsTaken}
+use Rattle.live_plan.specs.Inside.Seeking.{IsLatestTaken}
 use Rattle.live_plan.specs.Shelves.{Grows}
 use Rattle.live_plan.proofs.seeking.take_up.Given as goal
 
@@ -7,6 +7,6 @@ abbrev pub invariant-loop-change : goal.invariant-loop-change
 invariant-loop-change g l = record {
   shelf : g.H.Shelf.is_of l.shelf l.book;
   grows : Grows (g.H.Shelf.state l.fn.shelf) (g.H.Shelf.state l.shelf);
-  taken : IsTaken l.book l.taken;
+  taken : IsLatestTaken l.book l.taken;
   count : l.taken.changes ≡ l._change;
 }

@@ -5,7 +5,7 @@ use Rattle.table_form.proofs.CourseLemmas.{in_course}
 use Rattle.round_words.specs.Seats.{view_of}
 use Rattle.round_words.specs.Views.{part}
 use Rattle.dispatch_core.specs.declared.answer.Ended.TheVariants.{Ran, Behind}
-use Rattle.dispatch_core.specs.States.{FollowsPlans, Stands}
+use Rattle.dispatch_core.specs.States.{AgreesWithoutPlan, FollowsPlans}
 use Rattle.dispatch_core.specs.Told.{EndGoes, EndTold}
 use Rattle.live_plan.proofs.SeekingLemmas.{course_plan}
 use Rattle.live_plan.proofs.SteppingLemmas.{waits_told}
@@ -20,7 +20,7 @@ returns-in-Ran-clause-agrees g c =
     let w = view_of c.end_step.new.seat in
     let table = c.requires.table in
     let e = c.in-Ran.ensures in record {
-      stands = subst (λ (o : OutlineView). Stands o new w) c.outline.ensures e.stands;
+      stands = subst (λ (o : OutlineView). AgreesWithoutPlan o new w) c.outline.ensures e.stands;
       plans = λ course live. subst (λ (i : ℕ). FollowsPlans course new (part w i)) (sym e.same.core)
           (in_course course c.outline.result.now c.args.used table.plan
           (λ (x : CourseView). FollowsPlans x c.args.state.now p → FollowsPlans x new (part w core))
@@ -51,7 +51,7 @@ returns-in-Behind-clause-agrees g c =
     let w = view_of c.end_step.new.seat in
     let table = c.requires.table in
     let e = c.in-Behind.ensures in record {
-      stands = subst (λ (o : OutlineView). Stands o new w) c.outline.ensures e.stands;
+      stands = subst (λ (o : OutlineView). AgreesWithoutPlan o new w) c.outline.ensures e.stands;
       plans = λ course live. subst (λ (i : ℕ). FollowsPlans course new (part w i)) (sym e.same.core)
           (in_course course c.outline.result.now c.args.used table.plan
           (λ (x : CourseView). FollowsPlans x c.args.state.now p → FollowsPlans x new (part w core))

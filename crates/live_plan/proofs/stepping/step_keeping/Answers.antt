@@ -2,11 +2,11 @@ use Rattle.std.proofs.Common.{ℕ, refl, sym, subst}
 use Rattle.table_form.specs.Running.Outlines.{OutlineView}
 use Rattle.round_words.specs.Seats.{view_of}
 use Rattle.dispatch_core.specs.declared.answer.Begun.TheVariants.{At, Behind}
-use Rattle.dispatch_core.specs.States.{HasBegun, Stands}
+use Rattle.dispatch_core.specs.States.{AgreesWithoutPlan, HasBegun}
 use Rattle.dispatch_core.specs.Told.{BegunTold}
-use Rattle.live_plan.specs.Actors.{IsActorOf, LiveActorView, LiveAgrees, live_actor_view}
-use Rattle.live_plan.specs.Inside.Finishing.{FinishTold}
-use Rattle.live_plan.specs.Inside.Keeping.{IsKept}
+use Rattle.live_plan.specs.Actors.{IsLiveActorOf, LiveActorView, LiveAgrees, live_actor_view}
+use Rattle.live_plan.specs.Inside.Finishing.{LiveFinishTold}
+use Rattle.live_plan.specs.Inside.Keeping.{IsTableKept}
 use Rattle.live_plan.specs.Told.{LiveTold}
 use Rattle.live_plan.proofs.SteppingLemmas.{HasBegunFrom, actor_on, agrees_on, begin_waits, finish_told}
 use Rattle.live_plan.proofs.stepping.step_keeping.Goals as goal
@@ -20,10 +20,10 @@ finish-requires g c κs =
     let new = c.begin_step.new.state in
     let e = c.in-At.ensures in
     let was : LiveActorView = live_actor_view old c.actor.inside.table c.actor.inside.taken in
-    let of : IsActorOf b was = subst (IsActorOf b) (sym c.actor.view_is) c.requires.actor in
+    let of : IsLiveActorOf b was = subst (IsLiveActorOf b) (sym c.actor.view_is) c.requires.actor in
     let agrees : LiveAgrees b old v = subst (λ (a : LiveActorView). LiveAgrees b a.state v) (sym c.actor.view_is) c.requires.agrees in
-    let kept : IsKept b new.core c.args.kept.now = subst (λ (i : ℕ). IsKept b i c.args.kept.now) (sym e.same.core)
-    (subst (λ (a : LiveActorView). IsKept b a.state.core c.args.kept.now) (sym c.actor.view_is) c.requires.kept) in (
+    let kept : IsTableKept b new.core c.args.kept.now = subst (λ (i : ℕ). IsTableKept b i c.args.kept.now) (sym e.same.core)
+    (subst (λ (a : LiveActorView). IsTableKept b a.state.core c.args.kept.now) (sym c.actor.view_is) c.requires.kept) in (
       (refl, tt),
       (
         e.board,
@@ -90,17 +90,17 @@ returns-in-At-clause-told g c =
     let from : HasBegunFrom b old.rounds old.core seen used v u new = record {
       begins = begins.0;
       begun = begins.1;
-      stands = subst (λ (o : OutlineView). Stands o new u) c.outline.ensures e.stands;
+      stands = subst (λ (o : OutlineView). AgreesWithoutPlan o new u) c.outline.ensures e.stands;
       core = e.same.core;
       others = e.changes;
     } in
-    let told : FinishTold b old.core seen used u s c.finish.result w t =
-    subst (λ (i : ℕ). FinishTold b i seen used u s c.finish.result w t) e.same.core c.finish.ensures.told in
+    let told : LiveFinishTold b old.core seen used u s c.finish.result w t =
+    subst (λ (i : ℕ). LiveFinishTold b i seen used u s c.finish.result w t) e.same.core c.finish.ensures.told in
     subst (λ (a : LiveActorView). LiveTold b a.state.rounds a.state.core v s c.finish.result w t) c.actor.view_is
     (finish_told b old.rounds old.core seen used v u w s t new c.finish.result from told)
 
 pub returns-in-At-clause-kept : goal.returns-in-At-clause-kept
 returns-in-At-clause-kept g c =
     let b = c.args.book.now in
-    subst (λ (a : LiveActorView). IsKept b a.state.core c.finish.new.kept) c.actor.view_is
-    (subst (λ (i : ℕ). IsKept b i c.finish.new.kept) c.in-At.ensures.same.core c.finish.ensures.kept)
+    subst (λ (a : LiveActorView). IsTableKept b a.state.core c.finish.new.kept) c.actor.view_is
+    (subst (λ (i : ℕ). IsTableKept b i c.finish.new.kept) c.in-At.ensures.same.core c.finish.ensures.kept)

@@ -7,8 +7,8 @@ use Rattle.round_words.specs.Seats.{view_of}
 use Rattle.crew_turns.specs.declared.player.Player.{Player}
 use Rattle.crew_turns.specs.Troops.{AreAgreed, AreSame}
 use Rattle.crew_turns.proofs.GoingLemmas.{actors_twice}
-use Rattle.live_plan.specs.Crews.{AllAgree, CrewView, HoldsAll, IsCrewOf, crew_view}
-use Rattle.live_plan.specs.Players.{MemberView, core_kind, lead_kind}
+use Rattle.live_plan.specs.Crews.{HoldsLiveCrew, IsCrewOf, LiveCrewAgrees, LiveCrewView, live_crew_view}
+use Rattle.live_plan.specs.Players.{MemberView, live_core_kind, live_lead_kind}
 use Rattle.live_plan.proofs.CrewsLemmas.{ComesBack, agree_back, comes_back, complete, counts, finished_back, held_agreed, held_crew, holds_back, kept, none_more, promises}
 use Rattle.live_plan.proofs.workers.run_live.Given.{Over}
 use Rattle.live_plan.proofs.workers.run_live.Goals as goal
@@ -17,12 +17,12 @@ pub join-maker-requires-after_bounds : goal.join-maker-requires-after_bounds
 join-maker-requires-after_bounds g c κs within =
     let b = c.args.book.now in
     let t = c.crew.inside in
-    let x : CrewView = crew_view t.rounds t.members.items t.lead t.maker in
+    let x : LiveCrewView = live_crew_view t.rounds t.members.items t.lead t.maker in
     let v : View = view_of c.args.seat in
     let is : IsCrewOf b x = subst (IsCrewOf b) (sym c.crew.view_is) c.requires.crew in
     let few : b.outline.cores ≤ 32 = omega (arith, c.lag-lag.ensures.kept.few_cores, ap (λ (o : OutlineView). o.cores) c.outline.ensures) in
-    let held = held_crew b x v few is (subst (λ (k : CrewView). AllAgree b k v) (sym c.crew.view_is) c.requires.agree)
-    (subst (λ (k : CrewView). HoldsAll k v) (sym c.crew.view_is) c.requires.holds) in (
+    let held = held_crew b x v few is (subst (λ (k : LiveCrewView). LiveCrewAgrees b k v) (sym c.crew.view_is) c.requires.agree)
+    (subst (λ (k : LiveCrewView). HoldsLiveCrew k v) (sym c.crew.view_is) c.requires.holds) in (
       ((search rules, search rules, is.maker), (search rules, search rules)),
       ((search rules, search rules, c.requires.board, held), (search rules, search rules)),
     )
@@ -30,12 +30,12 @@ join-maker-requires-after_bounds g c κs within =
 pub finish-requires-clause-agreed : goal.finish-requires-clause-agreed
 finish-requires-clause-agreed g c κs within =
     let j = c.join-maker.result.1 in
-    subst (λ (ps : List (Player MemberView)). AreAgreed core_kind lead_kind ps j.2 (view_of j.0)) (sym c.deref_mut.ensures.value)
+    subst (λ (ps : List (Player MemberView)). AreAgreed live_core_kind live_lead_kind ps j.2 (view_of j.0)) (sym c.deref_mut.ensures.value)
     (held_agreed j.1.items j.2 (view_of j.0) c.join-maker.ensures.second.1)
 
 -- the crew that comes back
-abbrev crew_after : (g : Over) → goal.After-shown g → CrewView
-crew_after g c = crew_view c.crew.inside.rounds (with_items c.join-maker.result.1.1 c.finish.new.members).items c.finish.new.lead c.join-maker.result.0
+abbrev crew_after : (g : Over) → goal.After-shown g → LiveCrewView
+crew_after g c = live_crew_view c.crew.inside.rounds (with_items c.join-maker.result.1.1 c.finish.new.members).items c.finish.new.lead c.join-maker.result.0
 
 back : (g : Over) (c : goal.After-shown g) → ComesBack c.args.book.now (crew_after g c) (view_of c.finish.new.seat) c.stopped_at-stopped.result
 back g c =
@@ -43,7 +43,7 @@ back g c =
     let t = c.crew.inside in
     let j = c.join-maker.result in
     let e = c.finish.ensures in
-    let two = subst (λ (ps : List (Player MemberView)). AreSame core_kind lead_kind ps j.1.2 c.finish.new.members c.finish.new.lead) c.deref_mut.ensures.value e.same in
+    let two = subst (λ (ps : List (Player MemberView)). AreSame live_core_kind live_lead_kind ps j.1.2 c.finish.new.members c.finish.new.lead) c.deref_mut.ensures.value e.same in
     comes_back b t.rounds t.members.items j.1.1.items c.finish.new.members t.lead j.1.2 c.finish.new.lead t.maker j.0
     (view_of j.1.0) (view_of c.finish.new.seat) c.stopped_at-stopped.result (subst (IsCrewOf b) (sym c.crew.view_is) c.requires.crew) c.join-maker.ensures.first.0
     (with_items j.1.1 c.finish.new.members).items (with_items_is j.1.1 c.finish.new.members (two.count ∙ sym j.1.1.ok.0))

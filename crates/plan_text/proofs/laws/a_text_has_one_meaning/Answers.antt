@@ -1,4 +1,4 @@
-use Rattle.plan_text.specs.Meaning.{worded}
+use Rattle.tab_words.specs.Texts.{worded}
 use Rattle.plan_text.proofs.OneMeaning.{one_meaning}
 use Rattle.plan_text.proofs.laws.a_text_has_one_meaning.Goals as goal
 

@@ -1,10 +1,11 @@
 use Rattle.std.proofs.Common.{◌≡◌, ◌⊎◌, ◌∙◌, ℕ, List, Ok, Err, ap, sym, length, subst, rules}
 use Rattle.std.proofs.lemmas.List.{length-map}
 use Rattle.tab_core.specs.declared.vcpu.Vcpu.{Vcpu}
+use Rattle.tab_words.specs.Texts.{worded}
 use Rattle.table_form.specs.declared.raw_tables.RawTables.{RawTables}
 use Rattle.plan_text.specs.FirstBad.{IsFirstBadFor}
 use Rattle.plan_text.specs.Names.{AreHostNames}
-use Rattle.plan_text.specs.Meaning.{IsPlanText, IsSomePlan, worded}
+use Rattle.plan_text.specs.Meaning.{IsPlanText, IsSomePlan}
 use Rattle.vcpu_names.specs.Names.{names_of}
 use Rattle.plan_text.specs.declared.read_fault.ReadPlan.TheVariants.{BadLine, NoMemory}
 use Rattle.plan_text.proofs.ReadingHeadLemmas.{host_names, read_is_due, refusal_is_due}

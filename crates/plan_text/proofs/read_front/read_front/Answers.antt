@@ -3,7 +3,7 @@ use Rattle.std.proofs.lemmas.List.{length-map}
 use Rattle.std.proofs.lemmas.Result.{err_from_is_err_and}
 use Rattle.tab_words.specs.Lines.{lines_of}
 use Rattle.tab_words.specs.Words.{words_of}
-use Rattle.plan_text.specs.Meaning.{worded}
+use Rattle.tab_words.specs.Texts.{worded}
 use Rattle.plan_text.specs.PlanLines.{head_words, is_admitted}
 use Rattle.vcpu_names.specs.Names.{names_of}
 use Rattle.plan_text.specs.declared.read_fault.ReadPlan.TheVariants.{BadLine}

@@ -2,9 +2,9 @@ use Rattle.std.proofs.Common.{◌≡◌, [], ◌∷◌, map, IsTrue, sym, ap, �
 use Rattle.std.proofs.lemmas.List.{length-map}
 use Rattle.tab_words.specs.Lines.{lines_of}
 use Rattle.tab_words.specs.Words.{words_of}
+use Rattle.tab_words.specs.Texts.{worded}
 use Rattle.plan_text.specs.FirstBad.{IsFirstBadFor}
 use Rattle.plan_text.specs.Inside.OldReading.{AreSomeOldVcpus}
-use Rattle.plan_text.specs.Meaning.{worded}
 use Rattle.plan_text.specs.OldText.{IsOldHead}
 use Rattle.plan_text.proofs.OldReadingLemmas.{bad_behind_old_head, old_head_is_bad}
 use Rattle.plan_text.proofs.ReadingHeadLemmas.{few_behind}

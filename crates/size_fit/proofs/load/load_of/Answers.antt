@@ -1,5 +1,5 @@
 use Rattle.std.proofs.Common.{ap, ◌∙◌, arith}
-use Rattle.size_fit.specs.Loads.{load_of}
+use Rattle.size_fit.specs.Loads.{load_of_row}
 use Rattle.size_fit.proofs.LoadLemmas.{Next, counts_all, counts_none, next}
 use Rattle.size_fit.proofs.load.load_of.Goals as goal
 
@@ -27,4 +27,4 @@ loop-segment-preserved c =
 pub returns : goal.returns
 returns c =
     counts_all c.segments-parts.result.now c.loop-segment.segment-index c.loop-segment.from c.loop-segment.load
-    c.loop-segment-test.false c.loop-segment.invariant ∙ ap load_of c.segments-parts.ensures.cells
+    c.loop-segment-test.false c.loop-segment.invariant ∙ ap load_of_row c.segments-parts.ensures.cells

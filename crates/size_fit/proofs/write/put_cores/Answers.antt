@@ -1,6 +1,6 @@
 use Rattle.std.proofs.lemmas.Result.{err_from_is_err_and}
 use Rattle.tab_words.proofs.NumberedTextLemmas.{all_written, next_broken, next_written, none_written}
-use Rattle.size_fit.specs.FitText.{core_row}
+use Rattle.size_fit.specs.FitText.{fit_core_row}
 use Rattle.size_fit.proofs.write.put_cores.Goals as goal
 
 pub loop-core-init : goal.loop-core-init
@@ -9,14 +9,14 @@ loop-core-init g c = none_written _ _ (tt {0})
 pub returns-in_err-put_core : goal.returns-in_err-put_core
 returns-in_err-put_core g c =
     let p = err_from_is_err_and c.from_residual.result c.from_residual.ensures.1 in
-    rw p.1 (next_broken _ _ _ (core_row c.args.loads.now) c.loop-core.core _ (tt {0}) _
+    rw p.1 (next_broken _ _ _ (fit_core_row c.args.loads.now) c.loop-core.core _ (tt {0}) _
     c.in_err-put_core.field-0.0 c.loop-core-test.true c.loop-core.invariant c.put_core.ensures
     c.in_err-put_core.was)
 
 pub loop-core-preserved : goal.loop-core-preserved
-loop-core-preserved g c = next_written _ _ _ (core_row c.args.loads.now) c.loop-core.core
+loop-core-preserved g c = next_written _ _ _ (fit_core_row c.args.loads.now) c.loop-core.core
     (tt {0}) c.in_ok-put_core.field-0 _ c.loop-core.invariant c.put_core.ensures c.in_ok-put_core.was
 
 pub returns : goal.returns
-returns g c = all_written _ _ (core_row c.args.loads.now) c.loop-core.core _ (tt {0})
+returns g c = all_written _ _ (fit_core_row c.args.loads.now) c.loop-core.core _ (tt {0})
     c.loop-core.auto.core-end c.loop-core-test.false c.loop-core.invariant

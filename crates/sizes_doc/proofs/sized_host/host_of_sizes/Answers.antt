@@ -3,7 +3,7 @@ use Rattle.std.proofs.lemmas.List.{take_all}
 use Rattle.std.proofs.lemmas.Result.{err_from_is_err_and}
 use Rattle.tab_core.specs.declared.TheConstants.{MAX_VCPUS}
 use Rattle.tab_core.specs.declared.vcpu.Vcpu.{Vcpu}
-use Rattle.sizes_doc.specs.SizedHost.{HasBadName, HasFault, HasTooMany, IsTwice, NamesTwice, size_vcpus, sizes_vcpus}
+use Rattle.sizes_doc.specs.SizedHost.{HasBadName, HasSizesFault, HasTooMany, IsTwice, NamesTwice, size_vcpus, sizes_vcpus}
 use Rattle.sizes_doc.specs.declared.fault.SizesFault.{SizesFault}
 use Rattle.sizes_doc.specs.declared.fault.SizesFault.TheVariants.{BadName, NoMemory}
 use Rattle.sizes_doc.proofs.SizedLemmas.{all_admitted, bad_at, length-size, parted, size_more}
@@ -27,7 +27,7 @@ returns-in_err-push_size-clause-fault c =
     ⊎ ((c.in_err-push_size.field-0.0 ≡ BadName size.line) × HasBadName size) = c.in_err-push_size.ensures.fault in
     let due = bad_at c.args.sizes.now c.loop-size.size-index size c.in_err-push_size.field-0.0 c.loop-size-test.true
     c.size-item.is cause in
-    rw p.1 (subst (λ (fault : SizesFault). (fault ≡ NoMemory) ⊎ HasFault c.args.sizes.now fault) (sym p.2) due)
+    rw p.1 (subst (λ (fault : SizesFault). (fault ≡ NoMemory) ⊎ HasSizesFault c.args.sizes.now fault) (sym p.2) due)
 
 pub loop-size-preserved : goal.loop-size-preserved
 loop-size-preserved c =

@@ -1,7 +1,7 @@
 use Rattle.std.proofs.Common.{◌-◌, ℕ}
 use Rattle.tab_core.specs.declared.TheConstants.{ROUND}
 use Rattle.table_form.specs.Tables.Views.{plan_view}
-use Rattle.table_form.specs.Inside.Looks.{IsPart}
+use Rattle.table_form.specs.Inside.Looks.{IsSpotSoFar}
 use Rattle.slice_table.specs.Inside.Sweeps.{ArePast}
 use Rattle.slice_table.specs.Slices.{AreSpansOf}
 use Rattle.slice_table.proofs.sweep.sweep.Given as goal
@@ -11,7 +11,7 @@ abbrev pub invariant-growing : goal.invariant-growing
 invariant-growing l = record {
   from : ℕ;
   done : AreSpansOf (plan_view l.plan) l.scope.core 0 l.spans from;
-  part : IsPart (plan_view l.plan) l.scope.core from l.spot;
+  part : IsSpotSoFar (plan_view l.plan) l.scope.core from l.spot;
   past : ArePast l.plan.tables.rows l.spot.end l.numbers;
 }
 

@@ -4,13 +4,13 @@ use Rattle.std.proofs.lemmas.Bool.{cases_lt}
 use Rattle.std.proofs.lemmas.Option.{slice_get_read}
 use Rattle.step_machine.specs.declared.core_log.CoreLog.{CoreLog}
 use Rattle.table_form.specs.Running.State.{CoreState}
-use Rattle.step_machine.specs.Inside.Logs.{core_of}
+use Rattle.step_machine.specs.Inside.Logs.{core_of_log}
 use Rattle.step_machine.proofs.LogLemmas.{log_at, core_at, found_at, core_within}
 use Rattle.step_machine.proofs.premises.first_behind.Goals as goal
 
 pub returns-then-is_behind-clause-some : goal.returns-then-is_behind-clause-some
 returns-then-is_behind-clause-some c = record {
-  other = core_of c.index-logs-d.result;
+  other = core_of_log c.index-logs-d.result;
   at = core_at c.args.logs.now c.loop-d.d c.index-logs-d.result
       (slice_get_read c.args.logs.now (length c.args.logs.now) c.loop-d.d c.index-logs-d.result refl
       (let lt = c.loop-d-test.true in omega arith) c.index-logs-d.is);

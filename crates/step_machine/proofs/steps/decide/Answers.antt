@@ -3,7 +3,7 @@ use Rattle.std.specs.Prelude.{slice_get}
 use Rattle.tab_core.proofs.Lists.{same}
 use Rattle.step_machine.specs.Answers.{shown}
 use Rattle.step_machine.proofs.ShownLemmas.{is_decide}
-use Rattle.step_machine.specs.Inside.Logs.{core_of, cores_of}
+use Rattle.step_machine.specs.Inside.Logs.{core_of_log, cores_of_logs}
 use Rattle.step_machine.proofs.LogLemmas.{core_at}
 use Rattle.step_machine.proofs.MachineStateLemmas.{log_found, log_kept, spare_less}
 use Rattle.step_machine.proofs.steps.decide.Goals as goal
@@ -22,7 +22,7 @@ returns-in_default c =
     record {
       answer = (
         record {
-          core = core_of c.index-log.result.now;
+          core = core_of_log c.index-log.result.now;
           at = core_at c.args.machine.now.logs.items c.args.c c.index-log.result.now at;
           found_is = c.phase_at-phase.ensures;
           differs = λ e. c.in_default.not-Decide (c.phase_at-phase.ensures ∙ ap shown e);
@@ -39,6 +39,6 @@ enter-requires-clause-due c = λ core h.
     let p = c.args.machine.now in
     let at = log_found c.args.course.now c.args.rounds p c.args.c log c.requires.kept
     c.requires.core c.index-log.ensures in
-    let is = same (slice_get (cores_of p.logs.items) c.args.c) (core_of log) core
+    let is = same (slice_get (cores_of_logs p.logs.items) c.args.c) (core_of_log log) core
     (core_at p.logs.items c.args.c log at) h in
     rw (← is) (is_decide _ (sym c.phase_at-phase.ensures ∙ c.in-Decide.is), c.seen_by-seen.ensures, refl)

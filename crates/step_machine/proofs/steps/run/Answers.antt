@@ -4,7 +4,7 @@ use Rattle.tab_core.proofs.Lists.{same}
 use Rattle.run_promises.proofs.ChoiceLemmas.{last_more}
 use Rattle.step_machine.specs.Answers.{shown}
 use Rattle.step_machine.proofs.ShownLemmas.{is_run}
-use Rattle.step_machine.specs.Inside.Logs.{core_of, cores_of}
+use Rattle.step_machine.specs.Inside.Logs.{core_of_log, cores_of_logs}
 use Rattle.step_machine.proofs.LogLemmas.{core_at, cores_edited, rooms_edited}
 use Rattle.step_machine.proofs.MachineStateLemmas.{log_found, log_kept, spare_less, clock_small, last_edited}
 use Rattle.step_machine.proofs.steps.run.Goals as goal
@@ -23,7 +23,7 @@ returns-in_default c =
     record {
       answer = (
         record {
-          core = core_of c.index-log.result.now;
+          core = core_of_log c.index-log.result.now;
           at = core_at c.args.machine.now.logs.items c.args.c c.index-log.result.now at;
           found_is = c.phase_at-phase.ensures;
           differs = λ e. c.in_default.not-Run (c.phase_at-phase.ensures ∙ ap shown e);
@@ -40,7 +40,7 @@ stint_now-next-requires-clause-due c = λ core h.
     let p = c.args.machine.now in
     let at = log_found c.args.course.now c.args.rounds p c.args.c log c.requires.kept
     c.requires.core c.index-log.ensures in
-    let is = same (slice_get (cores_of p.logs.items) c.args.c) (core_of log) core
+    let is = same (slice_get (cores_of_logs p.logs.items) c.args.c) (core_of_log log) core
     (core_at p.logs.items c.args.c log at) h in
     rw (← is) (is_run _ (sym c.phase_at-phase.ensures ∙ c.in-Run.is))
 
@@ -57,10 +57,10 @@ returns-in-Some-clause-answer c =
     let at = log_found c.args.course.now c.args.rounds p c.args.c log c.requires.kept
     c.requires.core c.index-log.ensures in (
       record {
-        core = core_of log;
+        core = core_of_log log;
         at = core_at p.logs.items c.args.c log at;
         stint = c.stint_now-next.result.stint;
-        next = c.stint_now-next.ensures.next (core_of log) (core_at p.logs.items c.args.c log at);
+        next = c.stint_now-next.ensures.next (core_of_log log) (core_at p.logs.items c.args.c log at);
         low = rw (c.deref.ensures.value, c.lag.ensures.lag) at c.in-Some.ensures.some;
       },
       refl,
@@ -73,10 +73,10 @@ returns-in-None-clause-answer c =
     let at = log_found c.args.course.now c.args.rounds p c.args.c log c.requires.kept
     c.requires.core c.index-log.ensures in
     record {
-      core = core_of log;
+      core = core_of_log log;
       at = core_at p.logs.items c.args.c log at;
       stint = c.stint_now-next.result.stint;
-      next = c.stint_now-next.ensures.next (core_of log) (core_at p.logs.items c.args.c log at);
+      next = c.stint_now-next.ensures.next (core_of_log log) (core_at p.logs.items c.args.c log at);
       near = rw (c.deref.ensures.value, c.lag.ensures.lag) at c.in-None.ensures.none;
       becomes =
           rw (cores_edited p.logs.items c.push_stint.new.logs.items c.args.c log _

@@ -1,7 +1,7 @@
 use Rattle.std.proofs.Common.{refl, ap, sym, ◌∙◌, arith}
 use Rattle.step_machine.specs.Answers.{shown}
 use Rattle.step_machine.proofs.ShownLemmas.{is_end}
-use Rattle.step_machine.specs.Inside.Logs.{core_of}
+use Rattle.step_machine.specs.Inside.Logs.{core_of_log}
 use Rattle.step_machine.proofs.LogLemmas.{core_at, cores_edited, rooms_edited}
 use Rattle.step_machine.proofs.MachineStateLemmas.{log_found, log_kept, last_edited, spare_less}
 use Rattle.step_machine.proofs.steps.see.Goals as goal
@@ -18,7 +18,7 @@ returns-in-Finished-clause-answer c =
     let at = log_found c.args.course.now c.args.rounds c.args.machine.now c.args.c
     c.index-log.result.now c.requires.kept c.requires.core c.index-log.ensures in (
       record {
-        core = core_of c.index-log.result.now;
+        core = core_of_log c.index-log.result.now;
         at = core_at c.args.machine.now.logs.items c.args.c c.index-log.result.now at;
         finished = is_end _ (sym c.phase_at.ensures ∙ c.in-Finished.is);
         found_is = refl;
@@ -31,7 +31,7 @@ returns-then-not-has_up_to-clause-answer c =
     let at = log_found c.args.course.now c.args.rounds c.args.machine.now c.args.c
     c.index-log.result.now c.requires.kept c.requires.core c.index-log.ensures in (
       record {
-        core = core_of c.index-log.result.now;
+        core = core_of_log c.index-log.result.now;
         at = core_at c.args.machine.now.logs.items c.args.c c.index-log.result.now at;
         due = λ e. c.in_default.not-Finished (c.phase_at.ensures ∙ ap shown e);
         lacks = λ has.
@@ -49,7 +49,7 @@ returns-clause-answer c =
     c.requires.kept c.requires.core c.index-log.ensures in
     let edits = c.take_count.ensures log at in
     record {
-      core = core_of log;
+      core = core_of_log log;
       at = core_at c.args.machine.now.logs.items c.args.c log at;
       due = λ e. c.in_default.not-Finished (c.phase_at.ensures ∙ ap shown e);
       has = c.has_up_to.ensures.0 c.if-not-has_up_to.false;

@@ -9,7 +9,7 @@ use Rattle.table_form.specs.Running.Choice.{IsDispatch, last_after, last_shared}
 use Rattle.table_form.specs.Running.Courses.{CourseView, plan_after, plan_number_after}
 use Rattle.table_form.specs.Running.Outlines.{OutlineView}
 use Rattle.table_form.proofs.CourseLemmas.{in_course}
-use Rattle.step_machine.specs.Inside.Logs.{core_of, cores_of}
+use Rattle.step_machine.specs.Inside.Logs.{core_of_log, cores_of_logs}
 use Rattle.step_machine.proofs.LogLemmas.{core_at}
 use Rattle.step_machine.proofs.PhaseLemmas.{entered_to_run}
 use Rattle.step_machine.proofs.MachineStateLemmas.{log_found, log_kept}
@@ -21,7 +21,7 @@ seen_by-seen-requires c =
     let log = c.index-log.result.now in
     let at = log_found c.args.course.now c.args.rounds p c.args.c log c.requires.kept
     c.requires.core c.index-log.ensures in
-    inr (c.requires.due (core_of log) (core_at p.logs.items c.args.c log at))
+    inr (c.requires.due (core_of_log log) (core_at p.logs.items c.args.c log at))
 
 pub used_in-used-requires : goal.used_in-used-requires
 used_in-used-requires c =
@@ -30,8 +30,8 @@ used_in-used-requires c =
     let at = log_found c.args.course.now c.args.rounds p c.args.c log c.requires.kept
     c.requires.core c.index-log.ensures in
     let k = log_kept c.args.course.now c.args.rounds p c.args.c log c.requires.kept at in
-    entered_to_run c.args.rounds (core_of log) k.timeline.numbered
-    (c.requires.due (core_of log) (core_at p.logs.items c.args.c log at))
+    entered_to_run c.args.rounds (core_of_log log) k.timeline.numbered
+    (c.requires.due (core_of_log log) (core_at p.logs.items c.args.c log at))
 
 pub table_after-table-requires-clause-used : goal.table_after-table-requires-clause-used
 table_after-table-requires-clause-used c =
@@ -40,12 +40,12 @@ table_after-table-requires-clause-used c =
     let at = log_found c.args.course.now c.args.rounds p c.args.c log c.requires.kept
     c.requires.core c.index-log.ensures in
     let k = log_kept c.args.course.now c.args.rounds p c.args.c log c.requires.kept at in
-    let lt = entered_to_run c.args.rounds (core_of log) k.timeline.numbered
-    (c.requires.due (core_of log) (core_at p.logs.items c.args.c log at)) in
+    let lt = entered_to_run c.args.rounds (core_of_log log) k.timeline.numbered
+    (c.requires.due (core_of_log log) (core_at p.logs.items c.args.c log at)) in
     let found = element_at log.entries.items (log.clock / ROUND) lt in
     let used = c.used_in-used.ensures found.0 found.1 in
     let most = c.requires.kept.decided_posted (log.clock / ROUND) found.0.used
-    ((c.requires.kept.table.cores c.args.c (core_of log) (core_at p.logs.items c.args.c log at)).entries
+    ((c.requires.kept.table.cores c.args.c (core_of_log log) (core_at p.logs.items c.args.c log at)).entries
     (log.clock / ROUND) found.0 found.1) in
     omega (arith, c.requires.kept.posted_most)
 
@@ -85,10 +85,10 @@ returns-clause-next c = λ core h.
     let at = log_found course c.args.rounds p c.args.c log c.requires.kept c.requires.core
     c.index-log.ensures in
     let k = log_kept course c.args.rounds p c.args.c log c.requires.kept at in
-    let due = c.requires.due (core_of log) (core_at p.logs.items c.args.c log at) in
+    let due = c.requires.due (core_of_log log) (core_at p.logs.items c.args.c log at) in
     let found = element_at log.entries.items (log.clock / ROUND)
-    (entered_to_run c.args.rounds (core_of log) k.timeline.numbered due) in
-    let is = same (slice_get (cores_of p.logs.items) c.args.c) (core_of log) core
+    (entered_to_run c.args.rounds (core_of_log log) k.timeline.numbered due) in
+    let is = same (slice_get (cores_of_logs p.logs.items) c.args.c) (core_of_log log) core
     (core_at p.logs.items c.args.c log at) h in
     let stint = c.next_stint.result.stint in
     let plan : PlanView = plan_after course c.used_in-used.result in

@@ -1,6 +1,6 @@
 use Rattle.std.proofs.Common.{◌+◌, [], ◌∷◌, length, refl, ap, subst, arith, length-append}
 use Rattle.step_machine.specs.declared.core_log.CoreLog.{CoreLog}
-use Rattle.step_machine.specs.Inside.Logs.{HasRoom}
+use Rattle.step_machine.specs.Inside.Logs.{LogHasRoom}
 use Rattle.step_machine.proofs.LogLemmas.{found_at}
 use Rattle.step_machine.proofs.updates.push_entry.Goals as goal
 
@@ -13,7 +13,7 @@ returns c = λ before at.
       becomes = refl;
       core = rw (is, c.push_reserved.ensures.items) refl;
       last_is = rw is refl;
-      room = λ rounds n h. (let room = subst (λ (x : CoreLog). HasRoom rounds (n + 1) x) is h in record {
+      room = λ rounds n h. (let room = subst (λ (x : CoreLog). LogHasRoom rounds (n + 1) x) is h in record {
         entries = omega (
           arith,
           ap length c.push_reserved.ensures.items,

@@ -1,6 +1,6 @@
 use Rattle.std.proofs.Common.{◌+◌, Some, refl, subst, arith}
 use Rattle.step_machine.specs.declared.core_log.CoreLog.{CoreLog}
-use Rattle.step_machine.specs.Inside.Logs.{HasRoom}
+use Rattle.step_machine.specs.Inside.Logs.{LogHasRoom}
 use Rattle.step_machine.proofs.LogLemmas.{found_at}
 use Rattle.step_machine.proofs.updates.take_count.Goals as goal
 
@@ -14,7 +14,7 @@ returns c = λ before at.
       core = rw is refl;
       last_is = rw is refl;
       room = λ rounds n h.
-          (let room = subst (λ (x : CoreLog). HasRoom rounds (n + 1) x) is h in record {
+          (let room = subst (λ (x : CoreLog). LogHasRoom rounds (n + 1) x) is h in record {
             entries =
                 omega (arith, room.entries);
             stints = omega (arith, room.stints);

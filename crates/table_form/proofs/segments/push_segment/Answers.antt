@@ -2,7 +2,7 @@ use Rattle.std.proofs.Common.{map, ◌∷◌, [], ap, subst, sym, ◌∙◌, ari
 use Rattle.std.proofs.lemmas.Bool.{false≢true}
 use Rattle.std.proofs.lemmas.List.{map-append}
 use Rattle.table_form.specs.Tables.Segments.{segment_view}
-use Rattle.table_form.specs.Inside.Appending.{EndsWith}
+use Rattle.table_form.specs.Inside.Appending.{EndsWithOwner}
 use Rattle.table_form.proofs.AppendingLemmas.{appends, replaces, set_last, some_end}
 use Rattle.table_form.proofs.segments.push_segment.Goals as goal
 
@@ -28,7 +28,7 @@ index_mut-requires c =
 
 pub returns-then-is_last_owner-clause-ok : goal.returns-then-is_last_owner-clause-ok
 returns-then-is_last_owner-clause-ok c =
-    let with = subst (λ ss. EndsWith (map segment_view ss) c.args.next.owner) c.deref.ensures.value
+    let with = subst (λ ss. EndsWithOwner (map segment_view ss) c.args.next.owner) c.deref.ensures.value
     (c.is_last_owner.ensures.0 c.if-is_last_owner.true) in
     let some = some_end c.args.segments.now.items c.args.next.owner with in
     set_last c.args.segments.now.items with.before with.last _ c.args.next with.is
@@ -37,9 +37,9 @@ returns-then-is_last_owner-clause-ok c =
 
 pub returns-clause-ok : goal.returns-clause-ok
 returns-clause-ok c =
-    let other : EndsWith (map segment_view c.args.segments.now.items) c.args.next.owner → _
+    let other : EndsWithOwner (map segment_view c.args.segments.now.items) c.args.next.owner → _
     = λ with. false≢true (sym c.if-is_last_owner.false ∙ c.is_last_owner.ensures.1
-    (subst (λ ss. EndsWith (map segment_view ss) c.args.next.owner) (sym c.deref.ensures.value) with)) in
+    (subst (λ ss. EndsWithOwner (map segment_view ss) c.args.next.owner) (sym c.deref.ensures.value) with)) in
     ap (map segment_view) c.in_ok-push.ensures.items
     ∙ map-append segment_view c.args.segments.now.items (c.args.next ∷ [])
     ∙ appends (map segment_view c.args.segments.now.items) (segment_view c.args.next) other

@@ -1,5 +1,5 @@
 use Rattle.std.proofs.Common.{◌≡◌, ℕ, ◌<◌, length}
-use Rattle.report_counts.specs.Stretches.{stretch_at}
+use Rattle.run_counts.specs.Stretches.{stretch_at}
 use Rattle.trace_report.specs.Inside.Sound.{counted}
 use Rattle.trace_report.specs.ReportViews.{vcpu_at}
 use Rattle.trace_report.proofs.filling.take_waits.Given as goal

@@ -1,10 +1,10 @@
 use Rattle.std.proofs.Common.{Ok}
 use Rattle.tab_io.specs.Sinks.{Writes}
 use Rattle.tab_words.specs.Texts.{texts_below}
-use Rattle.view_chart.specs.Axes.{number_at}
+use Rattle.view_chart.specs.Axes.{mark_number_at}
 use Rattle.view_chart.proofs.axis.put_numbers.Given as goal
 
 -- the texts so far came
 abbrev pub invariant-loop-k : goal.invariant-loop-k
 invariant-loop-k g l = Writes {U = Unit {0}} (g.K.Sink.state l.fn.sink) (g.K.Sink.state l.sink)
-    (texts_below (number_at l.frame) l.k) (Ok (tt {0}))
+    (texts_below (mark_number_at l.frame) l.k) (Ok (tt {0}))

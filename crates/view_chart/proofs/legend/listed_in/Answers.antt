@@ -1,5 +1,5 @@
 use Rattle.std.proofs.Common.{◌∙◌}
-use Rattle.lane_svg.proofs.KeyLemmas.{count_same}
+use Rattle.view_svg.proofs.KeyLemmas.{count_same}
 use Rattle.view_chart.proofs.legend.listed_in.Goals as goal
 
 pub returns-clause-value : goal.returns-clause-value

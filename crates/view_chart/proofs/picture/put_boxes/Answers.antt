@@ -1,6 +1,6 @@
 use Rattle.std.proofs.lemmas.Result.{err_from_is_err_and}
 use Rattle.tab_words.proofs.NumberedTextLemmas.{all_written, next_broken, next_written, none_written}
-use Rattle.lane_svg.specs.Lanes.{ground_box}
+use Rattle.view_svg.specs.Lanes.{ground_box}
 use Rattle.view_chart.proofs.picture.put_boxes.Goals as goal
 
 pub loop-i-init : goal.loop-i-init

@@ -1,7 +1,7 @@
 use Rattle.std.proofs.Common.{Ok}
 use Rattle.tab_io.specs.Sinks.{Writes}
 use Rattle.tab_words.specs.Texts.{texts_below}
-use Rattle.lane_svg.specs.Lanes.{ground_box}
+use Rattle.view_svg.specs.Lanes.{ground_box}
 use Rattle.view_chart.proofs.picture.put_boxes.Given as goal
 
 -- the texts so far came

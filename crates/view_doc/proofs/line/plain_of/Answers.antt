@@ -1,8 +1,8 @@
 use Rattle.std.proofs.Common.{◌≡◌, ◌∷◌, MatchOption, Option, Some, None, codes, arith, rules}
 use Rattle.std.proofs.lemmas.Grind.{common_steps}
 use Rattle.tab_words.specs.Words.{words_of}
+use Rattle.tab_words.specs.Texts.{Line}
 use Rattle.view_doc.specs.Inside.Statements.{SaysNoPlain, told_by}
-use Rattle.view_doc.specs.Items.{Line}
 use Rattle.view_doc.specs.Lines.{Says}
 use Rattle.view_doc.specs.declared.statement.Statement.{Statement}
 use Rattle.view_doc.proofs.LineLemmas.{IsAnswer, NoHead, NoPosted, NoTask, no_head, no_posted, no_task, nothing_said}

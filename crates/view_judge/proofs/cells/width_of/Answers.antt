@@ -1,5 +1,5 @@
 use Rattle.std.proofs.Common.{◌≡◌, ◌∙◌, arith, sym}
-use Rattle.table_cells.proofs.WidthLemmas.{width_below-more, width_below-zero}
+use Rattle.view_cells.proofs.WidthLemmas.{width_below-more, width_below-zero}
 use Rattle.vcpu_names.proofs.NamesLemmas.{name_here}
 use Rattle.vcpu_names.specs.Names.{name_at, names_of}
 use Rattle.view_judge.proofs.cells.width_of.Goals as goal

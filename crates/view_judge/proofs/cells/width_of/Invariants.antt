@@ -1,5 +1,5 @@
 use Rattle.std.proofs.Common.{◌≡◌}
-use Rattle.table_cells.specs.Cells.{width_below}
+use Rattle.view_cells.specs.Cells.{width_below}
 use Rattle.vcpu_names.specs.Names.{names_of}
 use Rattle.view_judge.proofs.cells.width_of.Given as goal
 

@@ -1,6 +1,6 @@
 use Rattle.std.proofs.Common.{◌≡◌, ◌≤◌, drop, max}
 use Rattle.tab_core.specs.declared.TheConstants.{MAX_CORES}
-use Rattle.view_lanes.specs.Shown.{reach_of}
+use Rattle.view_doc.specs.Views.{reach_of}
 use Rattle.view_lanes.proofs.shown.reach_of.Given as goal
 
 abbrev pub invariant-loop-stretch : goal.invariant-loop-stretch

@@ -1,5 +1,5 @@
 use Rattle.std.proofs.Common.{◌∙◌, sym, inl, inr, arith, ap, ◌+◌, ℕ}
-use Rattle.view_table.specs.Groups.{asked_at, is_of, ppm_of}
+use Rattle.view_table.specs.Groups.{asked_at, asked_ppm, is_of_vm}
 use Rattle.view_table.proofs.GroupLemmas.{sum_none, sum_step}
 use Rattle.view_table.proofs.groups.asked_in.Goals as goal
 use Rattle.view_table.proofs.groups.asked_in.Goals.{then-is_of, else-is_of}
@@ -9,7 +9,7 @@ loop-vcpu-init c = record { value = sym (sum_none _ _); small = omega arith }
 
 pub loop-vcpu-preserved : goal.loop-vcpu-preserved
 loop-vcpu-preserved c = record {
-  value = sum_step (is_of c.args.view.now.names.items c.args.vm.now) (λ (v : ℕ). ppm_of (asked_at c.args.vcpus.now c.args.view.now.names.items v)) c.loop-vcpu.vcpu c.loop-vcpu.share c.if-is_of.share c.loop-vcpu.invariant.value
+  value = sum_step (is_of_vm c.args.view.now.names.items c.args.vm.now) (λ (v : ℕ). asked_ppm (asked_at c.args.vcpus.now c.args.view.now.names.items v)) c.loop-vcpu.vcpu c.loop-vcpu.share c.if-is_of.share c.loop-vcpu.invariant.value
       (elim c.if-is_of.branch [
         | then-is_of w ↦ inl (sym c.is_of.ensures ∙ w.if-is_of.true, w.share-is ∙ ap (λ (s : ℕ). c.loop-vcpu.share + s) w.ppm_at-share.ensures.value)
         | else-is_of w ↦ inr (sym c.is_of.ensures ∙ w.if-is_of.false, w.share-is)

@@ -1,6 +1,6 @@
 use Rattle.std.proofs.Common.{◌∙◌, sym, inl, inr, arith, ap, ◌+◌, ℕ}
 use Rattle.std.specs.List.{slice_get}
-use Rattle.view_table.specs.Groups.{is_of, share_in}
+use Rattle.view_table.specs.Groups.{is_of_vm, share_in}
 use Rattle.view_table.proofs.GroupLemmas.{sum_none, sum_step}
 use Rattle.view_table.proofs.groups.share_in.Goals as goal
 use Rattle.view_table.proofs.groups.share_in.Goals.{then-is_of, else-is_of}
@@ -10,7 +10,7 @@ loop-vcpu-init c = record { value = sym (sum_none _ _); small = omega arith }
 
 pub loop-vcpu-preserved : goal.loop-vcpu-preserved
 loop-vcpu-preserved c = record {
-  value = sum_step (is_of c.args.view.now.names.items c.args.vm.now) (λ (v : ℕ). share_in (slice_get c.args.view.now.tasks.items v)) c.loop-vcpu.vcpu c.loop-vcpu.share c.if-is_of.share c.loop-vcpu.invariant.value
+  value = sum_step (is_of_vm c.args.view.now.names.items c.args.vm.now) (λ (v : ℕ). share_in (slice_get c.args.view.now.tasks.items v)) c.loop-vcpu.vcpu c.loop-vcpu.share c.if-is_of.share c.loop-vcpu.invariant.value
       (elim c.if-is_of.branch [
         | then-is_of w ↦ inl (sym c.is_of.ensures ∙ w.if-is_of.true, w.share-is ∙ ap (λ (s : ℕ). c.loop-vcpu.share + s) w.share_at-share.ensures.value)
         | else-is_of w ↦ inr (sym c.is_of.ensures ∙ w.if-is_of.false, w.share-is)

@@ -1,5 +1,5 @@
 use Rattle.std.proofs.Common.{arith}
-use Rattle.table_cells.proofs.WidthLemmas.{width_below-more, width_below-zero}
+use Rattle.view_cells.proofs.WidthLemmas.{width_below-more, width_below-zero}
 use Rattle.view_table.proofs.rows.width_of.Goals as goal
 
 pub loop-vcpu-init : goal.loop-vcpu-init

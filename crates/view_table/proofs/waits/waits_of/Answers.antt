@@ -1,6 +1,6 @@
 use Rattle.std.proofs.Common.{◌≡◌, ◌++◌, drop, length, rules, subst, sym, take}
 use Rattle.std.proofs.lemmas.List.{take_at}
-use Rattle.view_table.specs.Figures.{AreMarks, AreWaits}
+use Rattle.view_table.specs.Figures.{AreWaitMarks, AreWaits}
 use Rattle.view_table.specs.Inside.Walks.{AreByBegin}
 use Rattle.view_table.proofs.waits.waits_of.Goals as goal
 
@@ -23,7 +23,7 @@ returns-clause-marks c =
     take_at _ _ _ (search rules) in
     let are : AreByBegin c.args.slots.now c.deref.result.now =
     subst (AreByBegin c.args.slots.now) (sym c.deref.ensures.value) c.in_ok-order.ensures in
-    subst (AreMarks c.args.slots.now c.args.count) (sym same) (record {
+    subst (AreWaitMarks c.args.slots.now c.args.count) (sym same) (record {
       size = search rules;
       each = λ v low. c.walk_rounds.ensures.marks c.args.slots.now v (search rules) are;
     })

@@ -3,7 +3,7 @@ use Rattle.round_words.specs.declared.view.View.{View}
 use Rattle.round_words.specs.Seats.{view_of}
 use Rattle.crew_turns.specs.declared.stepper.Turn.{Turn}
 use Rattle.crew_turns.specs.Kinds.{Stepped}
-use Rattle.plan_switch.specs.Controllers.{AgreesWith, ControllerView}
+use Rattle.plan_switch.specs.Controllers.{ControlAgreesWith, ControllerView}
 use Rattle.core_workers.specs.Actors.{lead_kind}
 use Rattle.core_workers.proofs.ActorLemmas.{lead_told, lead_turn}
 use Rattle.core_workers.proofs.Causes.{lead_parts}
@@ -23,7 +23,7 @@ returns-clause-told c =
     let v : View = view_of c.args.seat.now in
     let w : View = view_of c.control_step.new.seat in
     let e = c.control_step.ensures in
-    let told : Stepped lead_kind k v (lead_turn c.control_step.result) l w = lead_told k l v w c.control_step.result (subst (λ (x : ControllerView). AgreesWith x.course x.state v) (sym c.self.view_is) c.requires.agrees) e.agrees e.course e.changes e.told in
+    let told : Stepped lead_kind k v (lead_turn c.control_step.result) l w = lead_told k l v w c.control_step.result (subst (λ (x : ControllerView). ControlAgreesWith x.course x.state v) (sym c.self.view_is) c.requires.agrees) e.agrees e.course e.changes e.told in
     let turn : lead_turn c.control_step.result ≡ c.match-control_step.result = elim c.match-control_step.branch [
       | in-Posted z ↦ ap lead_turn z.in-Posted.is ∙ sym z.result-is
       | in-Behind z ↦ ap lead_turn z.in-Behind.is ∙ sym z.result-is

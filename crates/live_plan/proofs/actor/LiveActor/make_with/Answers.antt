@@ -4,7 +4,7 @@ use Rattle.table_form.specs.Tables.Plans.{PlanView}
 use Rattle.slice_table.specs.Slices.{IsTableOf}
 use Rattle.slice_table.specs.Owners.{AreRowOwners}
 use Rattle.dispatch_core.specs.Parts.{IsOfOutline}
-use Rattle.dispatch_core.specs.States.{Stands}
+use Rattle.dispatch_core.specs.States.{AgreesWithoutPlan}
 use Rattle.live_plan.specs.Actors.{IsLastChange}
 use Rattle.live_plan.proofs.actor.LiveActor.make_with.Goals as goal
 
@@ -36,7 +36,7 @@ pub returns-clause-agrees : goal.returns-clause-agrees
 returns-clause-agrees c = λ v of holds new.
     let e = c.in_ok-state.ensures in
     let of' = subst (λ (o : OutlineView). IsOfOutline o v) (sym c.outline.ensures) of in record {
-      stands = subst (λ (o : OutlineView). Stands o c.in_ok-state.state v) c.outline.ensures (e.stands v of' holds new);
+      stands = subst (λ (o : OutlineView). AgreesWithoutPlan o c.in_ok-state.state v) c.outline.ensures (e.stands v of' holds new);
       plans = λ course live. (e.agrees course v (live.outline ∙ sym c.outline.ensures)
           (subst (λ (o : OutlineView). IsOfOutline o v) (sym live.outline) of) holds new).plans;
     }

@@ -1,5 +1,5 @@
 use Rattle.std.proofs.Common.{List, Err, refl, ap, subst, sym, ◌∙◌, arith}
-use Rattle.course_run.specs.Changes.{changes_of}
+use Rattle.run_course.specs.Changes.{changes_of}
 use Rattle.script_doc.specs.declared.event.Event.{Event}
 use Rattle.tableau_sim.specs.Inside.Reply.{Makes}
 use Rattle.tableau_sim.specs.Run.{Runs}

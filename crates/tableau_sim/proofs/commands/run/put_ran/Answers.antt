@@ -4,8 +4,8 @@ use Rattle.tab_io.proofs.SinkLemmas.{all_left, left_behind, left_broken, left_la
 use Rattle.tab_io.specs.Sinks.{Writes}
 use Rattle.tab_words.specs.declared.command.RunMode.{RunMode}
 use Rattle.burst_bound.specs.BurstText.{bursts_text}
-use Rattle.course_run.specs.RunText.{run_text}
-use Rattle.course_run.specs.Runs.{kept_stints}
+use Rattle.run_course.specs.RunText.{run_text}
+use Rattle.run_course.specs.Runs.{kept_stints}
 use Rattle.tableau_sim.specs.Run.{burst_part}
 use Rattle.tableau_sim.proofs.commands.run.put_ran.Goals as goal
 

@@ -3,20 +3,20 @@ use Rattle.std.proofs.lemmas.List.{length-map}
 use Rattle.tab_words.specs.declared.command.RunMode.TheVariants.{Burst}
 use Rattle.plan_book.specs.declared.outcome.Outcome.{Outcome as PlanOutcome}
 use Rattle.plan_promises.proofs.RunsLemmas.{run_keeps}
-use Rattle.board_state.specs.Readings.{state_of}
+use Rattle.run_state.specs.Readings.{state_of}
 use Rattle.core_workers.specs.Views.{CrewView}
 use Rattle.burst_bound.specs.KeptRuns.{IsKeptRun}
 use Rattle.burst_bound.specs.Reports.{AreBurstAnswers}
 use Rattle.table_form.specs.Running.State.{State}
-use Rattle.course_run.proofs.TellingLemmas.{can_be_told, tells_of_state}
-use Rattle.course_run.specs.Inside.Keeping.{IsShort, StopsRun}
-use Rattle.course_run.specs.RunText.{run_text}
-use Rattle.course_run.specs.Runs.{IsRunOf, keeps_stints, kept_stints, stints_at}
+use Rattle.run_course.proofs.TellingLemmas.{can_be_told, tells_of_state}
+use Rattle.run_course.specs.Inside.Keeping.{IsTraceWithinLimit, StopsRun}
+use Rattle.run_course.specs.RunText.{run_text}
+use Rattle.run_course.specs.Runs.{IsRunOf, keeps_stints, kept_stints, stints_at}
 use Rattle.script_doc.specs.declared.event.Event.{Event}
 use Rattle.tab_core.specs.declared.host.Host.{Host}
 use Rattle.tableau_sim.specs.Frame.{WritesReply}
 use Rattle.tableau_sim.specs.Inside.Reply.{Makes}
-use Rattle.tableau_sim.specs.Outcomes.Outcome.{Writes}
+use Rattle.tableau_sim.specs.Outcomes.CallOutcome.{Writes}
 use Rattle.tableau_sim.specs.Replay.{HasScript}
 use Rattle.tableau_sim.specs.Run.{Runs, burst_part, text_of_run}
 use Rattle.tableau_sim.specs.declared.reply.Stop.{Stop}
@@ -90,7 +90,7 @@ returns-in-Ok-run_course-clause-answers g c = λ sections given.
     let answers = c.answers.result.now in
     let ran : IsRunOf book.course c.args.rounds c.args.mode view told =
     rw c.course-course.ensures at c.in-Ok-run_course.ensures.ran in
-    let short : IsShort book.course c.args.rounds c.args.mode = rw c.course-course.ensures at c.in-Ok-run_course.ensures.short in
+    let short : IsTraceWithinLimit book.course c.args.rounds c.args.mode = rw c.course-course.ensures at c.in-Ok-run_course.ensures.short in
     let bursts : c.args.mode ≡ Burst → AreBurstAnswers book.course c.args.rounds (state_of book.course view) run.script answers =
     λ asked. (let all : (s : State) → IsKeptRun book.course c.args.rounds c.crew.result.now s
     → AreBurstAnswers book.course c.args.rounds s run.script c.tell_bursts.new.bursts.answers =

@@ -1,5 +1,5 @@
 use Rattle.std.proofs.Common.{ap}
-use Rattle.course_run.specs.Runs.{keeps_stints}
+use Rattle.run_course.specs.Runs.{keeps_stints}
 use Rattle.tableau_sim.proofs.RunLemmas.{room_for}
 use Rattle.tableau_sim.proofs.commands.run.tell_bursts.Goals as goal
 

@@ -1,12 +1,12 @@
 use Rattle.std.proofs.Common.{◌≡◌, ◌++◌, ℕ, List, [], subst, sym, inl}
 use Rattle.tab_words.specs.declared.command.RunMode.TheVariants.{Report}
 use Rattle.plan_promises.proofs.RunsLemmas.{run_keeps}
-use Rattle.board_state.specs.Readings.{state_of}
-use Rattle.course_run.proofs.TellingLemmas.{can_be_told, tells_of_state}
-use Rattle.course_run.specs.RunText.{run_text}
-use Rattle.course_run.specs.Runs.{IsRunOf, kept_stints}
+use Rattle.run_state.specs.Readings.{state_of}
+use Rattle.run_course.proofs.TellingLemmas.{can_be_told, tells_of_state}
+use Rattle.run_course.specs.RunText.{run_text}
+use Rattle.run_course.specs.Runs.{IsRunOf, kept_stints}
 use Rattle.tableau_sim.specs.Frame.{WritesReply}
-use Rattle.tableau_sim.specs.Outcomes.Outcome.{Writes}
+use Rattle.tableau_sim.specs.Outcomes.CallOutcome.{Writes}
 use Rattle.tableau_sim.specs.Run.{text_of_run}
 use Rattle.tableau_sim.specs.Selftest.{Selftests, selftest_line}
 use Rattle.tableau_sim.proofs.commands.selftest.run_test.Goals as goal

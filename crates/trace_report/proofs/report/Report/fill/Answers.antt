@@ -4,14 +4,14 @@ use Rattle.std.specs.Vec.{with_items}
 use Rattle.std.proofs.lemmas.List.{length-replicate, with_items_is}
 use Rattle.tab_core.specs.declared.TheConstants.{MAX_ROUNDS, MAX_VCPUS, ROUND}
 use Rattle.table_form.specs.Running.Courses.{CourseView}
-use Rattle.report_counts.specs.Reports.{IsReported}
-use Rattle.report_counts.specs.RoundPlans.{round_plans_of}
-use Rattle.report_counts.specs.Stretches.{stretch_at}
-use Rattle.report_counts.specs.declared.round_plan.RoundPlan.{RoundPlan}
-use Rattle.report_counts.specs.declared.stretch.Stretch.{Stretch}
+use Rattle.run_counts.specs.Reports.{IsReported}
+use Rattle.run_counts.specs.RoundPlans.{round_plans_of}
+use Rattle.run_counts.specs.Stretches.{stretch_at}
+use Rattle.run_counts.specs.declared.round_plan.RoundPlan.{RoundPlan}
+use Rattle.run_counts.specs.declared.stretch.Stretch.{Stretch}
 use Rattle.trace_report.specs.Inside.Sound.{AreWithinCores, counted}
 use Rattle.trace_report.specs.ReportViews.{no_core_ticks, report_view, vcpu_at}
-use Rattle.trace_report.specs.RunReports.{HasRoom, IsFilled, IsVcpuCounted, vcpus_of}
+use Rattle.trace_report.specs.RunReports.{HasRoom, IsFilled, IsVcpuCounted, vcpu_count}
 use Rattle.trace_report.specs.declared.ticks.CoreTicks.{CoreTicks}
 use Rattle.trace_report.specs.declared.ticks.VcpuTicks.{VcpuTicks}
 use Rattle.trace_report.proofs.report.Report.fill.Goals as goal
@@ -22,7 +22,7 @@ AreCounted vcpus run = (v : ℕ) → v < length vcpus → vcpu_at vcpus v ≡ co
 
 -- a report with these lists is filled
 filled : (course : CourseView) (used : List ℕ) (plans : List RoundPlan) (vcpus : List VcpuTicks) (cores : List CoreTicks)
-    (room : ℕ) (run : List Stretch) → plans ≡ round_plans_of course used → length vcpus ≡ vcpus_of course
+    (room : ℕ) (run : List Stretch) → plans ≡ round_plans_of course used → length vcpus ≡ vcpu_count course
     → AreCounted vcpus run → length vcpus ≤ MAX_VCPUS
     → ((v : ℕ) → v < MAX_VCPUS → IsReported course used v (stretch_at run v).offered (stretch_at run v).most)
     → cores ≡ replicate course.cores no_core_ticks → IsFilled course used (report_view plans vcpus cores room 0)

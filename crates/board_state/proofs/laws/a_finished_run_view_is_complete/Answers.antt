@@ -1,5 +1,0 @@
-use Rattle.board_state.proofs.FinishedLemmas.{view_complete}
-use Rattle.board_state.proofs.laws.a_finished_run_view_is_complete.Goals as goal
-
-pub returns : goal.returns
-returns c = view_complete

@@ -1,5 +1,0 @@
-use Rattle.board_state.proofs.RunViewLemmas.{view_kept}
-use Rattle.board_state.proofs.laws.a_run_view_is_kept.Goals as goal
-
-pub returns : goal.returns
-returns c = view_kept

@@ -1,8 +1,0 @@
-use Rattle.run_promises.proofs.PromiseLemmas.{promised}
-use Rattle.board_state.specs.Readings.{state_of}
-use Rattle.board_state.proofs.RunViewLemmas.{view_kept}
-use Rattle.board_state.proofs.laws.a_run_view_keeps_its_promises.Goals as goal
-
-pub returns : goal.returns
-returns c = λ course rounds v ok run.
-    promised course rounds (state_of course v) ok (view_kept course rounds v run)

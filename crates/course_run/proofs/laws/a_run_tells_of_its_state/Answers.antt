@@ -1,5 +1,0 @@
-use Rattle.course_run.proofs.TellingLemmas.{tells_of_state}
-use Rattle.course_run.proofs.laws.a_run_tells_of_its_state.Goals as goal
-
-pub returns : goal.returns
-returns c = tells_of_state

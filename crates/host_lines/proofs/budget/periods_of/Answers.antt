@@ -1,7 +1,0 @@
-use Rattle.std.proofs.Common.{sym, ◌∙◌, arith}
-use Rattle.host_lines.proofs.PeriodLemmas.{some_of}
-use Rattle.host_lines.proofs.budget.periods_of.Goals as goal
-
-pub returns-in-Quota-2-clause-value : goal.returns-in-Quota-2-clause-value
-returns-in-Quota-2-clause-value c = rw c.in-Quota-2.is
-    (c.div_ceil.ensures ∙ sym (some_of c.args.cost _ (omega (arith, c.if-cost-eq0.false))))

@@ -1,7 +1,0 @@
-use Rattle.std.proofs.Common.{sym, ◌∙◌, arith}
-use Rattle.host_lines.proofs.PeriodLemmas.{some_of}
-use Rattle.host_lines.proofs.budget.weight_of.Goals as goal
-
-pub returns : goal.returns
-returns c = rw (← c.from.ensures, ← c.from-2.ensures)
-    (c.div_ceil.ensures ∙ sym (some_of c.from-2.result _ (omega (arith, c.if-task-eq0.false, c.from-2.ensures))))

@@ -1,4 +1,0 @@
-use Rattle.host_lines.proofs.quotas.write_cgroup.Goals as goal
-
-pub returns : goal.returns
-returns g c = rw (← c.deref.ensures.value, ← c.deref-2.ensures.value) c.put_cgroup_text.ensures

@@ -1,7 +1,0 @@
-use Rattle.std.proofs.Common.{◌≡◌, None}
-use Rattle.host_lines.specs.Unkept.{core_fault, first_below}
-use Rattle.host_lines.proofs.unkept.cores_fault.Given as goal
-
--- the cores so far have no fault
-abbrev pub invariant-loop-core : goal.invariant-loop-core
-invariant-loop-core l = first_below (core_fault l.scheduler l.tick_ns l.tasks) l.core ≡ None

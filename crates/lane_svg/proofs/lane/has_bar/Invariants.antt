@@ -1,9 +1,0 @@
-use Rattle.std.proofs.Common.{◌≡◌, drop}
-use Rattle.std.specs.List.{list_any}
-use Rattle.lane_svg.specs.Lanes.{is_of}
-use Rattle.lane_svg.proofs.lane.has_bar.Given as goal
-
--- none so far
-abbrev pub invariant-loop-bar : goal.invariant-loop-bar
-invariant-loop-bar l = list_any (is_of l.v l.shared) l.bars
-    ≡ list_any (is_of l.v l.shared) (drop l.bar-index l.bars)

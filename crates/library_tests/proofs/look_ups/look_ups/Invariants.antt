@@ -1,4 +1,0 @@
-use Rattle.library_tests.proofs.look_ups.look_ups.Given as goal
-
-abbrev pub ghosts-all_show : goal.ghosts-all_show
-ghosts-all_show g a = record { name = a.blank.name; parts = a.blank.parts }

@@ -1,5 +1,0 @@
-use Rattle.live_plan.specs.Inside.Cells.{IsCellShelfOf}
-use Rattle.live_tests.proofs.runs.judge_cells.Given as goal
-
-abbrev pub invariant-loop-change : goal.invariant-loop-change
-invariant-loop-change l = record { shelf : IsCellShelfOf l.book l.shelf }

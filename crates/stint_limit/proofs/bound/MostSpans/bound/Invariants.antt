@@ -1,9 +1,0 @@
-use Rattle.std.proofs.Common.{◌*◌, ◌≤◌}
-use Rattle.stint_limit.proofs.LargestLemmas.{IsSumOf}
-use Rattle.stint_limit.proofs.bound.MostSpans.bound.Given as goal
-
-abbrev pub invariant-loop-core : goal.invariant-loop-core
-invariant-loop-core l = record {
-  sum : IsSumOf l.course l.core l.sum;
-  small : l.sum ≤ l.core * 8589934592;
-}

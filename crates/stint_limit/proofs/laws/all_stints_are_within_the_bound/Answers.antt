@@ -1,5 +1,0 @@
-use Rattle.stint_limit.proofs.StintBoundLemmas.{all_stints}
-use Rattle.stint_limit.proofs.laws.all_stints_are_within_the_bound.Goals as goal
-
-pub returns : goal.returns
-returns c = all_stints

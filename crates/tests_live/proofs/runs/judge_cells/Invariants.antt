@@ -1,0 +1,5 @@
+use Rattle.live_plan.specs.Inside.Cells.{IsCellShelfOf}
+use Rattle.tests_live.proofs.runs.judge_cells.Given as goal
+
+abbrev pub invariant-loop-change : goal.invariant-loop-change
+invariant-loop-change l = record { shelf : IsCellShelfOf l.book l.shelf }

@@ -1,0 +1,10 @@
+use Rattle.std.proofs.Common.{Ok}
+use Rattle.tab_io.specs.Sinks.{Writes}
+use Rattle.tab_words.specs.Texts.{texts_below}
+use Rattle.view_schedulers.specs.Lines.{deadline_of, each_vcpu_text}
+use Rattle.view_schedulers.proofs.lines.put_deadline_vcpus.Given as goal
+
+-- the lines of the vCPUs so far came
+abbrev pub invariant-loop-vcpu : goal.invariant-loop-vcpu
+invariant-loop-vcpu g l = Writes {U = Unit {0}} (g.K.Sink.state l.fn.sink) (g.K.Sink.state l.sink)
+    (texts_below (each_vcpu_text (deadline_of l.scheduler l.first_cpu l.tick_ns) l.names l.tasks) l.vcpu) (Ok (tt {0}))

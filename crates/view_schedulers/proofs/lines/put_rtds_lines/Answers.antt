@@ -1,0 +1,11 @@
+use Rattle.std.proofs.lemmas.Result.{err_from_is_err_and}
+use Rattle.tab_io.proofs.SinkLemmas.{writes_broken, writes_then}
+use Rattle.view_schedulers.proofs.lines.put_rtds_lines.Goals as goal
+
+pub returns-in_err-put_pin : goal.returns-in_err-put_pin
+returns-in_err-put_pin g c =
+    let p = err_from_is_err_and c.from_residual.result c.from_residual.ensures.1 in
+    rw p.1 (writes_broken _ _ _ _ _ _ c.put_pin.ensures c.in_err-put_pin.was)
+
+pub returns : goal.returns
+returns g c = writes_then _ _ _ _ _ _ _ _ c.put_pin.ensures c.in_ok-put_pin.was c.put_budget.ensures
