@@ -56,7 +56,7 @@ impl Net {
         requires cores { cores ≤ MAX_CORES }
         requires fits { demands tasks.now ≤ cores * ROUND }
         ensures network { IfOk result IsNetwork }
-        ensures load_of_view { IfOk result (λ net. load_of_view net.demands
+        ensures load { IfOk result (λ net. load_of_view net.demands
             ≡ load_of_tasks tasks.now net.demands.marks cores) }
         ensures marks { IfOk result (λ net. AreMarks (map period_of_task tasks.now) net.demands.marks) }
         ensures opening { IfOk result (λ net. (v i : ℕ) → v < (load_of_view net.demands).width

@@ -60,7 +60,7 @@ pub fn run_course<'a, R: Threads + Sync, G: Gate>(
     gate: &G,
 ) -> Result<(RoundSeat, Ran<'a>), (RoundSeat, RunFault)>
     requires board { IsSeatOf board.now seat }
-    requires unstarted { view_of seat ≡ unstarted }
+    requires opening { view_of seat ≡ unstarted }
     requires fits { FitsRounds course.now rounds }
     ensures board { IfOk result (λ r. IsSeatOf board.now r.0) }
     ensures ran { IfOk result (λ r. IsRunOf course.now rounds mode (view_of r.0) r.1) }

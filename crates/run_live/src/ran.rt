@@ -75,7 +75,7 @@ pub fn run_script<R: Threads + Wait + Sync, G: Gate>(
     requires some { 1 ≤ rounds }
     requires few { rounds ≤ MAX_ROUNDS }
     requires board { IsSeatOf board.now seat }
-    requires unstarted { view_of seat ≡ unstarted }
+    requires opening { view_of seat ≡ unstarted }
     ensures board { IfOk result (λ r. IsSeatOf board.now r.0) }
     ensures ran { IfOk result (λ r. IsLiveRunOf rounds host.now script.now (view_of r.0) r.1) }
     ensures board_left { IfErr result (λ r. IsSeatOf board.now r.0) }
@@ -112,7 +112,7 @@ fn run_ready<'a, R: Threads + Wait + Sync, G: Gate>(
     requires rounds { crew.rounds ≡ rounds }
     requires agree { (v : View) → IsNewView (bare live.now) v → LiveCrewAgrees live.now crew v }
     requires board { IsSeatOf board.now seat }
-    requires unstarted { view_of seat ≡ unstarted }
+    requires opening { view_of seat ≡ unstarted }
     ensures board { IsSeatOf board.now result.0 }
     ensures ran { LiveCrewHasRun live.now rounds result.1 (view_of result.0) result.2 }
 {

@@ -61,7 +61,7 @@ pub(crate) fn run<R: Threads + Wait + Sync, S: Source, K: Sink, G: Gate>(
     requires some { 1 ≤ rounds }
     requires few { rounds ≤ MAX_ROUNDS }
     requires board { IsSeatOf stage.now.board.now seat }
-    requires unstarted { view_of seat ≡ unstarted }
+    requires opening { view_of seat ≡ unstarted }
     ensures board { IsSeatOf stage.now.board.now result.seat }
     ensures answers { (words : List (List ℕ)) → IsCommand words (called.Run rounds mode)
         → Answers (OnSeat (view_of seat) (view_of result.seat)) (LeavesSeat (view_of seat) (view_of result.seat)) words
@@ -94,7 +94,7 @@ fn run_input<R: Threads + Wait + Sync, K: Sink, G: Gate>(
     requires some { 1 ≤ rounds }
     requires few { rounds ≤ MAX_ROUNDS }
     requires board { IsSeatOf stage.now.board.now seat }
-    requires unstarted { view_of seat ≡ unstarted }
+    requires opening { view_of seat ≡ unstarted }
     ensures board { IsSeatOf stage.now.board.now result.seat }
     ensures answers { (words : List (List ℕ)) (from to : SourceView) → IsCommand words (called.Run rounds mode)
         → HasInput from to bytes.now
@@ -124,7 +124,7 @@ fn run_sections<R: Threads + Wait + Sync, K: Sink, G: Gate>(
     requires some { 1 ≤ rounds }
     requires few { rounds ≤ MAX_ROUNDS }
     requires board { IsSeatOf stage.now.board.now seat }
-    requires unstarted { view_of seat ≡ unstarted }
+    requires opening { view_of seat ≡ unstarted }
     ensures board { IsSeatOf stage.now.board.now result.seat }
     ensures answers { AnswersBy (Runs rounds mode (view_of result.seat) sections.now)
         (LeavesRun rounds mode (view_of seat) (view_of result.seat) sections.now)
@@ -224,7 +224,7 @@ fn run_script<R: Threads + Sync, K: Sink, G: Gate>(
     requires within { AreWithin (length host.vcpus) script }
     requires in_run { AreInRun rounds script }
     requires board { IsSeatOf stage.now.board.now seat }
-    requires unstarted { view_of seat ≡ unstarted }
+    requires opening { view_of seat ≡ unstarted }
     ensures board { IsSeatOf stage.now.board.now result.seat }
     ensures answers { (sections : List (List ℕ)) → HasScript rounds sections host script
         → AnswersBy (Runs rounds mode (view_of result.seat) sections)

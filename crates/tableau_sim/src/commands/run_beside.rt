@@ -41,7 +41,7 @@ pub(crate) fn run_beside<R: Threads + Wait + Sync, K: Sink, G: Gate>(
     requires within { AreWithin (length host.vcpus) script }
     requires in_run { AreInRun rounds script }
     requires board { IsSeatOf stage.now.board.now seat }
-    requires unstarted { view_of seat ≡ unstarted }
+    requires opening { view_of seat ≡ unstarted }
     ensures board { IsSeatOf stage.now.board.now result.seat }
     ensures answers { (sections : List (List ℕ)) → HasScript rounds sections host script
         → AnswersBy (Runs rounds Live (view_of result.seat) sections)

@@ -40,7 +40,7 @@ pub(crate) fn selftest<R: Threads + Sync, K: Sink, G: Gate>(
     seat: RoundSeat,
 ) -> Done
     requires board { IsSeatOf stage.now.board.now seat }
-    requires unstarted { view_of seat ≡ unstarted }
+    requires opening { view_of seat ≡ unstarted }
     ensures board { IsSeatOf stage.now.board.now result.seat }
     ensures answers { (words : List (List ℕ)) (source : SourceView) → IsCommand words (called.Selftest seed)
         → Answers (OnSeat (view_of seat) (view_of result.seat)) (LeavesSeat (view_of seat) (view_of result.seat)) words
@@ -57,7 +57,7 @@ fn run_test<R: Threads + Sync, K: Sink, G: Gate>(
     seat: RoundSeat,
 ) -> Done
     requires board { IsSeatOf stage.now.board.now seat }
-    requires unstarted { view_of seat ≡ unstarted }
+    requires opening { view_of seat ≡ unstarted }
     ensures board { IsSeatOf stage.now.board.now result.seat }
     ensures answers { AnswersBy (Selftests seed (view_of result.seat)) (view_of result.seat ≡ view_of seat)
         (view_of seat) (view_of result.seat) (K.state output.old) (K.state output.new) result.status }
