@@ -11,6 +11,7 @@ pub mod RowsOfCores
 pub mod SharesLemmas
 pub mod SplitInTurnLemmas
 pub mod StartLemmas
+pub mod StayingAnswer
 pub mod StayingHomes
 pub mod TasksOfPlan
 pub mod UnsplitLemmas

@@ -2,3 +2,4 @@
 pub mod Allotted
 pub mod RowsOfCores
 pub mod Splits
+pub mod StayingAnswer

@@ -6,6 +6,7 @@ ghost use Rattle.table_form.specs.Tables.Views.{plan_view};
 ghost use Rattle.period_choice.specs.Tasks.{AreTasksOf, IsFirstWithoutPeriod};
 ghost use Rattle.worst_fit.specs.Bound.{IsWithinBound};
 ghost use Rattle.worst_fit.specs.Staying.{LeaveForNeed, StayWhereAllFit};
+ghost use Rattle.plan_make.specs.Inside.StayingAnswer.{IsStayingAnswer};
 ghost use Rattle.plan_make.specs.Planned.{IsFirstStayingWithoutRoom, IsFirstWithoutRoom, IsPlanned, IsStayingPlan};
 
 use crate::draft::draft_of;
@@ -136,25 +137,8 @@ fn plan_staying_with<R: Threads + Sync>(
     old_homes: &[Option<CoreNo>],
 ) -> Result<Plan, PlanFault>
     requires { AreTasksOf host.now tasks }
-    ensures ok { IfOk result (λ plan. IsStayingPlan old_homes.now host.now (plan_view plan)) }
-    ensures only { IfOk result (λ plan. (other : PlanView) → IsStayingPlan old_homes.now host.now other
-        → other ≡ plan_view plan) }
-    ensures fits_host { IfOk result (λ plan. IsPlanFor host.now (plan_view plan)) }
-    ensures chosen { IfOk result (λ plan. AreTasksOf host.now plan.tasks) }
-    ensures stay { IfOk result (λ plan. StayWhereAllFit old_homes.now plan.tasks host.now.cores
-        plan.tables.homes) }
-    ensures need { IfOk result (λ plan. LeaveForNeed old_homes.now plan.tasks host.now.cores
-        plan.tables.homes) }
+    ensures answer { IsStayingAnswer old_homes.now host.now result }
     ensures no_period { (vcpu : ℕ) → IsErrOf result (PlanFault.NoPeriod vcpu) → ⊥ }
-    ensures no_room { (vcpu rest : ℕ) (over : List Over) → IsErrOf result (PlanFault.NoRoom vcpu rest over)
-        → IsFirstStayingWithoutRoom old_homes.now host.now vcpu rest over }
-    ensures without_room { (vcpu rest : ℕ) (over : List Over)
-        → IsFirstStayingWithoutRoom old_homes.now host.now vcpu rest over → IsErr result }
-    ensures bound { (tasks : List (Option Periodic)) → AreTasksOf host.now tasks
-        → IsWithinBound tasks host.now.cores
-        → IfErr result (λ fault. fault ≡ PlanFault.NoMemory) }
-    ensures planned { (plan : PlanView) → IsStayingPlan old_homes.now host.now plan
-        → IfErr result (λ fault. fault ≡ PlanFault.NoMemory) }
 {
     let layout = lay_out(alloc, host, &tasks, old_homes)?;
     let draft = draft_of(alloc, tasks, layout, host.vcpus.capped())?;

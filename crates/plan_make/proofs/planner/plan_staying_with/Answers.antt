@@ -2,32 +2,31 @@ use Rattle.std.proofs.Common.{ap, length, subst, sym, ◌∙◌}
 use Rattle.std.proofs.lemmas.Result.{err_from_is_err_and}
 use Rattle.table_form.specs.Tables.Serves.{has_task}
 use Rattle.table_form.specs.Tables.Views.{plan_view}
-use Rattle.coalesce.specs.Joining.{AreJoined}
-use Rattle.plan_make.proofs.OnePlan.{IsMadeOf, layout_is_planned, no_memory_for_layout, staying_or_refused, staying_unique}
 use Rattle.table_form.proofs.TaskLemmas.{tasks_admit}
 use Rattle.period_choice.proofs.TasksLemmas.{tasks_where_reserved}
-use Rattle.period_choice.proofs.Unique.{tasks_unique}
-use Rattle.worst_fit.specs.Bound.{IsWithinBound}
-use Rattle.plan_make.specs.Faults.{fault_of_split}
+use Rattle.coalesce.specs.Joining.{AreJoined}
+use Rattle.plan_make.proofs.OnePlan.{IsMadeOf, layout_is_planned}
+use Rattle.plan_make.proofs.StayingAnswer.{answer_of_fault, answer_of_memory, answer_of_plan}
 use Rattle.plan_make.proofs.planner.plan_staying_with.Given.{Over}
-use Rattle.plan_make.proofs.StayingHomes.{plan_leaves_for_need, plan_stays}
 use Rattle.plan_make.proofs.planner.plan_staying_with.Goals as goal
 
-pub returns-in_err-layout-clause-planned : goal.returns-in_err-layout-clause-planned
-returns-in_err-layout-clause-planned g c plan planned =
-    let p = err_from_is_err_and c.from_residual.result
-    c.from_residual.ensures.1 in
-    rw (p.1, p.2)
-    (no_memory_for_layout c.args.old_homes.now c.args.host.now plan c.in_err-layout.field-0.0 planned
-    c.in_err-layout.ensures.fault)
-
-pub returns-in_err-layout-clause-bound : goal.returns-in_err-layout-clause-bound
-returns-in_err-layout-clause-bound g c tasks are within =
+pub returns-in_err-layout-clause-answer : goal.returns-in_err-layout-clause-answer
+returns-in_err-layout-clause-answer g c =
     let p = err_from_is_err_and c.from_residual.result c.from_residual.ensures.1 in
-    let same = tasks_unique c.args.host.now tasks c.args.tasks are c.requires in
     rw (p.1, p.2)
-    (ap fault_of_split
-    (c.in_err-layout.ensures.bound (subst (λ ts. IsWithinBound ts c.args.host.now.cores) same within)))
+    (answer_of_fault c.args.old_homes.now c.args.host.now c.args.tasks c.in_err-layout.field-0.0 c.requires
+    c.in_err-layout.ensures.fault c.in_err-layout.ensures.bound)
+
+pub returns-in_err-draft-clause-answer : goal.returns-in_err-draft-clause-answer
+returns-in_err-draft-clause-answer g c =
+    let p = err_from_is_err_and c.from_residual-in_err-draft.result c.from_residual-in_err-draft.ensures.1 in
+    rw (p.1, p.2) (answer_of_memory c.args.old_homes.now c.args.host.now c.args.tasks c.requires)
+
+pub returns-in_err-join_slivers-clause-answer : goal.returns-in_err-join_slivers-clause-answer
+returns-in_err-join_slivers-clause-answer g c =
+    let p = err_from_is_err_and c.from_residual-in_err-join_slivers.result
+    c.from_residual-in_err-join_slivers.ensures.1 in
+    rw (p.1, p.2) (answer_of_memory c.args.old_homes.now c.args.host.now c.args.tasks c.requires)
 
 -- what the calls made
 made : (g : Over) (c : goal.After-drop-draft-5 g)
@@ -45,32 +44,17 @@ made g c = record {
       (sym c.in_ok-join_slivers.ensures.capped) c.in_ok-join_slivers.ensures.joined;
 }
 
-pub returns-clause-only : goal.returns-clause-only
-returns-clause-only g c other planned =
-    staying_unique c.args.old_homes.now c.args.host.now other _ planned
-    (layout_is_planned c.args.old_homes.now c.args.host.now _ _ _ _ _ _ c.in_ok-layout.ensures.layout (made g c))
-
-pub returns-clause-fits_host : goal.returns-clause-fits_host
-returns-clause-fits_host g c = record {
-  rows = c.in_ok-join_slivers.ensures.joined.size ∙ c.in_ok-draft.ensures.count
-      ∙ c.in_ok-layout.ensures.count;
-  vcpus = ap length ((made g c).tasks_are) ∙ c.requires.as_many;
-  admitted = λ v. ap (λ tasks. has_task tasks v) (made g c).tasks_are
-      ∙ tasks_admit c.args.host.now.vcpus c.args.tasks c.requires.as_many
-      (tasks_where_reserved c.args.host.now c.args.tasks c.requires) v;
-}
-
-pub returns-clause-without_room : goal.returns-clause-without_room
-returns-clause-without_room g c vcpu rest over first =
-    let laid = layout_is_planned c.args.old_homes.now c.args.host.now _ _ _ _ _ _ c.in_ok-layout.ensures.layout (made g c) in
-    absurd (staying_or_refused c.args.old_homes.now c.args.host.now _ vcpu rest over laid first)
-
-pub returns-clause-stay : goal.returns-clause-stay
-returns-clause-stay g c = plan_stays c.args.old_homes.now c.args.host.now _
+pub returns-clause-answer : goal.returns-clause-answer
+returns-clause-answer g c =
+    let are_made = made g c in
+    answer_of_plan c.args.old_homes.now c.args.host.now _
     (layout_is_planned c.args.old_homes.now c.args.host.now _ _ _ _ _ _ c.in_ok-layout.ensures.layout
-    (made g c))
-
-pub returns-clause-need : goal.returns-clause-need
-returns-clause-need g c = plan_leaves_for_need c.args.old_homes.now c.args.host.now _
-    (layout_is_planned c.args.old_homes.now c.args.host.now _ _ _ _ _ _ c.in_ok-layout.ensures.layout
-    (made g c))
+    are_made)
+    (record {
+      rows = c.in_ok-join_slivers.ensures.joined.size ∙ c.in_ok-draft.ensures.count
+          ∙ c.in_ok-layout.ensures.count;
+      vcpus = ap length are_made.tasks_are ∙ c.requires.as_many;
+      admitted = λ v. ap (λ tasks. has_task tasks v) are_made.tasks_are
+          ∙ tasks_admit c.args.host.now.vcpus c.args.tasks c.requires.as_many
+          (tasks_where_reserved c.args.host.now c.args.tasks c.requires) v;
+    })
