@@ -102,11 +102,7 @@ fn stay_in_order(
 fn home_of(homes: &[Option<CoreNo>], vcpu: VcpuNo) -> Option<CoreNo>
     ensures { result ≡ get_or homes.now vcpu None }
 {
-    if vcpu.index() < homes.len() {
-        homes[vcpu.index()]
-    } else {
-        None
-    }
+    homes.get(vcpu.index()).copied().flatten()
 }
 
 // The next vCPU stays at its old home if that has room for it, and moves otherwise.
