@@ -48,6 +48,16 @@ IsCpuOf (Some word) (Some cpu) = (cpu < 2 ^ 32) × (word ≡ decimal cpu)
 IsCpuOf None (Some cpu) = ⊥
 IsCpuOf (Some word) None = ⊥
 
+-- the line says this of the vCPU of a name: from a time on it is in a state, on a CPU where one is there
+pub record LineTells (line name : List ℕ) (time : ℕ) (state : State) (cpu : Option ℕ) : Type 0 where
+  pub fields : Fields
+  pub written : fields_of line ≡ field_list fields
+  pub named : fields.name ≡ name
+  pub some_name : 0 < length name
+  pub spelled : Spells fields.time time
+  pub says : fields.state ≡ state_word state
+  pub on : IsCpuOf fields.cpu cpu
+
 -- the line says this of the vCPUs of these names
 pub record SaysMark (names : List (List ℕ)) (line : List ℕ) (mark : Mark) : Type 0 where
   pub fields : Fields

@@ -1,11 +1,11 @@
-ghost use Rattle.std.specs.Prelude.{◌≡◌, ℕ, ◌<◌, ◌^◌, Option, MatchOption, decimal};
+ghost use Rattle.std.specs.Prelude.{◌≡◌, ℕ, ◌<◌, ◌^◌, List, Option, MatchOption, decimal};
 ghost use Rattle.host_trace.specs.Inside.Written.{fields_in};
-ghost use Rattle.host_trace.specs.TraceLines.{IsCpuOf, SaysMark, is_head, is_passed_over, state_word};
+ghost use Rattle.host_trace.specs.TraceLines.{IsCpuOf, LineTells, SaysMark, is_head, is_passed_over, state_word};
 ghost use Rattle.host_trace.specs.declared.mark.Mark.{Mark};
 ghost use Rattle.host_trace.specs.declared.mark.State.{State};
 
 use crate::fields::{Written, written_in};
-use crate::mark::{Mark, State};
+use crate::mark::{Mark, State, Told};
 use script_doc::is_skipped;
 use tab_words::read_number;
 use vcpu_names::Names;
@@ -32,6 +32,24 @@ pub fn mark_of(names: &Names<'_>, line: u64, text: &[u8]) -> Option<Mark>
     ensures { MatchOption result ((mark : Mark) → SaysMark names.now text.now mark → ⊥)
         (λ mark. (mark.line ≡ line) × SaysMark names.now text.now mark) }
 {
+    let Some(told) = told_of(text) else {
+        return None;
+    };
+    Some(Mark {
+        line,
+        time_ns: told.time_ns,
+        vcpu: names.number_of(told.name),
+        state: told.state,
+        cpu: told.cpu,
+    })
+}
+
+/// What the line says of the vCPU that it names. None exactly where it says nothing.
+pub fn told_of(text: &[u8]) -> Option<Told<'_>>
+    ensures { MatchOption result
+        ((name : List ℕ) (time : ℕ) (state : State) (cpu : Option ℕ) → LineTells text.now name time state cpu → ⊥)
+        (λ told. LineTells text.now told.name.now told.time_ns told.state told.cpu) }
+{
     let Some(written) = written_in(text) else {
         return None;
     };
@@ -47,10 +65,9 @@ pub fn mark_of(names: &Names<'_>, line: u64, text: &[u8]) -> Option<Mark>
     let Some(cpu) = cpu_of(&written) else {
         return None;
     };
-    Some(Mark {
-        line,
+    Some(Told {
         time_ns,
-        vcpu: names.number_of(written.name),
+        name: written.name,
         state,
         cpu,
     })

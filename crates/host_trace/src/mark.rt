@@ -23,3 +23,14 @@ pub struct Mark {
     /// The CPU where one is there.
     pub cpu: Option<u32>,
 }
+
+/// What a line says of the vCPU that it names: from this time on that is in this state.
+#[derive(Clone, Copy)]
+pub struct Told<'a> {
+    pub time_ns: u64,
+    /// The name, which has a byte.
+    pub name: &'a [u8],
+    pub state: State,
+    /// The CPU where one is there.
+    pub cpu: Option<u32>,
+}

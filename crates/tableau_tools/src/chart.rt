@@ -2,19 +2,21 @@ ghost use Rattle.std.specs.Prelude.{◌<◌, ◌≤◌, ◌^◌, IfOk, length};
 ghost use Rattle.tab_core.specs.declared.TheConstants.{MAX_CORES, MAX_VCPUS};
 
 use crate::fault::Fault;
-use crate::input::input_of;
+use crate::input::{Input, input_of};
 use crate::output::{finish, output_of};
 use crate::plan::{drawable, host_of, plan_of, view_of};
+use crate::trace::trace_of;
 use clap::ArgMatches;
 use std::alloc::Global;
 use tab_core::{MAX_TICK_NS, MAX_VCPUS, Name, TICK_NS, Vcpu, VcpuNo};
 use tab_words::cut_sections;
 use vcpu_names::Names;
-use view_chart::write_chart;
+use view_chart::{write_chart, write_trace_chart};
 use view_doc::View;
 use view_lanes::ChartOptions;
 use view_table::figures_of;
-use view_text::{TextOptions, write_text_chart};
+use view_text::{TextOptions, write_text_chart, write_trace_text};
+use view_trace::is_host_trace;
 
 /// Does `chart`: it reads a text and draws it.
 pub(crate) fn chart(rt: &HostRuntime, matches: &ArgMatches<'_>) -> Result<(), Fault> {
@@ -31,7 +33,10 @@ fn put_text(rt: &HostRuntime, matches: &ArgMatches<'_>) -> Result<(), Fault> {
     let drawn = drawn_of(rt, matches)?;
     options.tick_ns = drawn.tick_ns;
     let mut sink = output_of(rt)?;
-    write_text_chart(rt.alloc(), &mut sink, &drawn.view, &options)?;
+    match drawn.end {
+        Some(end) => write_trace_text(rt.alloc(), &mut sink, &drawn.view, end, &options)?,
+        None => write_text_chart(rt.alloc(), &mut sink, &drawn.view, &options)?,
+    }
     finish(&mut sink)
 }
 
@@ -42,23 +47,35 @@ fn put_picture(rt: &HostRuntime, matches: &ArgMatches<'_>) -> Result<(), Fault> 
     options.tick_ns = drawn.tick_ns;
     let figures = figures_of(rt.alloc(), &drawn.view)?;
     let mut sink = output_of(rt)?;
-    write_chart(
-        rt.alloc(),
-        &mut sink,
-        &drawn.view,
-        &figures,
-        &drawn.promises,
-        &options,
-    )?;
+    match drawn.end {
+        Some(end) => write_trace_chart(
+            rt.alloc(),
+            &mut sink,
+            &drawn.view,
+            &figures,
+            end,
+            &options,
+        )?,
+        None => write_chart(
+            rt.alloc(),
+            &mut sink,
+            &drawn.view,
+            &figures,
+            &drawn.promises,
+            &options,
+        )?,
+    }
     finish(&mut sink)
 }
 
-// What is drawn: a plan or a run, the waits that its host promises, if it has one, and nanoseconds of a tick.
+// What is drawn: a plan, a run or a host's trace, the waits that its host promises, if it has one, nanoseconds of a tick,
+// and the tick at which it ends, if it is a host's trace.
 #[derive(Drop)]
 struct Drawn {
     view: View,
     promises: Vec<Option<u64>>,
     tick_ns: u16,
+    end: Option<u32>,
     ghost cores: { view.cores ≤ MAX_CORES },
     ghost vcpus: { length view.names.items ≤ MAX_VCPUS },
     ghost tasks: { length view.tasks.items ≤ MAX_VCPUS },
@@ -71,9 +88,23 @@ fn drawn_of(rt: &HostRuntime, matches: &ArgMatches<'_>) -> Result<Drawn, Fault> 
     if sections.count() == 2 && !sections.part(0).starts_with(b"plan ") {
         return drawn_plan_of(rt, &input.place, sections.part(0), sections.part(1));
     }
+    if is_host_trace(&input.bytes) {
+        return drawn_trace_of(rt, input);
+    }
     let view = view_of(rt.alloc(), input)?;
     let tick_ns = matches.get_one::<u32>("tick").unwrap_or(TICK_NS);
     checked(view, Vec::new(rt.alloc()), tick_ns)
+}
+
+// A host's trace, whose ticks are its own.
+fn drawn_trace_of(rt: &HostRuntime, input: Input) -> Result<Drawn, Fault> {
+    let trace = trace_of(rt.alloc(), input)?;
+    Ok(Drawn {
+        view: drawable(trace.view)?,
+        promises: Vec::new(rt.alloc()),
+        tick_ns: trace.tick_ns,
+        end: Some(trace.end),
+    })
 }
 
 // A plan beside its host, whose ticks and promises are its own.
@@ -115,6 +146,7 @@ fn checked(view: View, promises: Vec<Option<u64>>, tick_ns: u32) -> Result<Drawn
         view: drawable(view)?,
         promises,
         tick_ns: tick_ns.min(MAX_TICK_NS) as u16,
+        end: None,
     })
 }
 

@@ -74,7 +74,7 @@ fn with_part<'a>(alloc: Global, command: Command<'a>) -> Result<Command<'a>, All
             alloc,
             "to",
             "TICK",
-            "The tick that ends what is drawn; without it, the end of the last round",
+            "The tick that ends what is drawn; without it, the end of the last round or of the trace",
         ))?
         .arg(width_arg(alloc))?
         .arg(tick_arg(alloc))

@@ -49,6 +49,17 @@ pub(crate) enum Fault {
         line: u64,
         text: String,
     },
+    #[error("{place}line {line} of the trace {why}: '{text}'")]
+    UndrawnLine {
+        place: String,
+        line: u64,
+        why: &'static str,
+        text: String,
+    },
+    #[error("{place}the trace lasts 11.9 hours or more; give a part of it")]
+    LastingTrace {
+        place: String,
+    },
     #[error("{place}the trace has too many lines")]
     LongTrace {
         place: String,

@@ -2,7 +2,7 @@
 //!
 //! Each command has a file. What it reads is a text, and what it writes is a definition's text of the
 //! view that was read: `view_doc` has the reader, `view_table`, `view_chart`, `view_text`, `view_page` and `view_export` the
-//! texts. Of a trace of another host `host_judge` has the reader, and `view_judge` the texts.
+//! texts. Of a trace of another host `host_judge` and `view_trace` have the readers, and `view_judge` the texts.
 #![tactic(auto)]
 
 mod chart;
@@ -30,6 +30,7 @@ mod report;
 mod sections;
 mod shown;
 mod table;
+mod trace;
 mod unkept;
 mod vms;
 

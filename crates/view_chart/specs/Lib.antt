@@ -3,3 +3,4 @@ pub mod Charts
 pub mod Heads
 pub mod Legends
 pub mod Rounds
+pub mod Traces

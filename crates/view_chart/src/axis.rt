@@ -51,7 +51,11 @@ pub(crate) fn put_axis<K: Sink>(sink: &mut K, frame: &Frame, lanes: u32) -> Resu
     put_tick_axis(sink, frame, lanes)
 }
 
-fn put_time_axis<K: Sink>(sink: &mut K, frame: &Frame, lanes: u32) -> Result<(), WriteFault>
+pub(crate) fn put_time_axis<K: Sink>(
+    sink: &mut K,
+    frame: &Frame,
+    lanes: u32,
+) -> Result<(), WriteFault>
     requires { lanes ≤ MAX_VCPUS }
     ensures { Writes (K.state sink.old) (K.state sink.new) (time_axis frame.now (foot_of lanes)) result }
 {
@@ -310,7 +314,7 @@ fn end_tick(frame: &Frame) -> u64
 }
 
 // How many marks there are.
-fn tick_marks(frame: &Frame) -> u64
+pub(crate) fn tick_marks(frame: &Frame) -> u64
     ensures { result ≡ end_tick frame.now - first_tick frame.now }
 {
     end_tick(frame).saturating_sub(first_tick(frame))
@@ -336,11 +340,11 @@ fn put_tick_number<K: Sink>(sink: &mut K, frame: &Frame, y: u32, k: u64) -> Resu
     ensures { Writes (K.state sink.old) (K.state sink.new) (tick_number frame.now y k) result }
 {
     let tick = marked_tick(frame, k);
-    put_tick(sink, x_at(frame, tick), y, tick)
+    put_tick(sink, x_at(frame, tick), y, u64::from(tick))
 }
 
 // The tick of the mark of a number.
-fn marked_tick(frame: &Frame, k: u64) -> u32
+pub(crate) fn marked_tick(frame: &Frame, k: u64) -> u32
     requires { k < end_tick frame.now - first_tick frame.now }
     ensures { result ≡ (first_tick frame.now + k) * tick_step frame.now }
 {
@@ -352,7 +356,7 @@ fn marked_tick(frame: &Frame, k: u64) -> u32
 
 // Writes a number below the lanes.
 #[tactic(auto, unfolding(crate::specs::Axes::tick_text))]
-pub(crate) fn put_tick<K: Sink>(sink: &mut K, x: u64, y: u32, tick: u32) -> Result<(), WriteFault>
+pub(crate) fn put_tick<K: Sink>(sink: &mut K, x: u64, y: u32, tick: u64) -> Result<(), WriteFault>
     ensures { Writes (K.state sink.old) (K.state sink.new) (tick_text x y tick) result }
 {
     put_pieces(
@@ -363,7 +367,7 @@ pub(crate) fn put_tick<K: Sink>(sink: &mut K, x: u64, y: u32, tick: u32) -> Resu
             TextPiece::Text(b"\" y=\""),
             TextPiece::Number(y),
             TextPiece::Text(b"\" font-size=\"900\" class=\"dim\" text-anchor=\"middle\">"),
-            TextPiece::Number(tick),
+            TextPiece::Wide(tick),
             TextPiece::Text(b"</text>\n"),
         ],
     )

@@ -152,7 +152,7 @@ fn draw_vcpus<K: Sink>(
 }
 
 // What a fault of writing is here.
-fn told(written: Result<(), WriteFault>) -> Result<(), ChartFault>
+pub(crate) fn told(written: Result<(), WriteFault>) -> Result<(), ChartFault>
     ensures ok { IfOk result (λ u. written ≡ Ok u) }
     ensures broken { IfErr result (λ f. (f ≡ fault.Write) × (written ≡ Err (record {}))) }
 {

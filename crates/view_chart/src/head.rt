@@ -90,7 +90,12 @@ fn put_columns_note<K: Sink>(sink: &mut K, ticks: u32) -> Result<(), WriteFault>
 }
 
 // Writes where the picture begins.
-fn put_size<K: Sink>(sink: &mut K, picture: u32, width: u32, tall: u32) -> Result<(), WriteFault>
+pub(crate) fn put_size<K: Sink>(
+    sink: &mut K,
+    picture: u32,
+    width: u32,
+    tall: u32,
+) -> Result<(), WriteFault>
     ensures { Writes (K.state sink.old) (K.state sink.new)
         (svg_begin picture width (width * tall / 150000) tall) result }
 {
@@ -137,7 +142,7 @@ fn put_begin<K: Sink>(
 
 // Writes where the words below the title begin.
 #[tactic(auto, unfolding(crate::specs::Heads::desc_begin))]
-fn put_desc<K: Sink>(sink: &mut K, picture: u32) -> Result<(), WriteFault>
+pub(crate) fn put_desc<K: Sink>(sink: &mut K, picture: u32) -> Result<(), WriteFault>
     ensures { Writes (K.state sink.old) (K.state sink.new) (desc_begin picture) result }
 {
     put_pieces(
@@ -151,7 +156,7 @@ fn put_desc<K: Sink>(sink: &mut K, picture: u32) -> Result<(), WriteFault>
 }
 
 // Writes the classes of the words and boxes.
-fn put_style<K: Sink>(sink: &mut K, picture: u32) -> Result<(), WriteFault>
+pub(crate) fn put_style<K: Sink>(sink: &mut K, picture: u32) -> Result<(), WriteFault>
     ensures { Writes (K.state sink.old) (K.state sink.new) (style_text picture) result }
 {
     put_style_begin(sink)?;
@@ -334,7 +339,7 @@ fn put_stripes<'a, K: Sink>(
 
 // Writes the ground, and where the title begins.
 #[tactic(auto, unfolding(crate::specs::Heads::title_begin))]
-fn put_ground<K: Sink>(sink: &mut K, tall: u32) -> Result<(), WriteFault>
+pub(crate) fn put_ground<K: Sink>(sink: &mut K, tall: u32) -> Result<(), WriteFault>
     ensures { Writes (K.state sink.old) (K.state sink.new) (title_begin tall) result }
 {
     put_pieces(

@@ -87,7 +87,7 @@ fn put_chart_head<K: Sink>(
 }
 
 // How tall a picture of so many lanes and keys is.
-fn tall_of(lanes: u32, keys: u32) -> u32
+pub(crate) fn tall_of(lanes: u32, keys: u32) -> u32
     requires lanes { lanes ≤ MAX_VCPUS }
     requires keys { keys ≤ MAX_VCPUS }
     ensures { result ≡ tall_of lanes keys }
@@ -96,7 +96,7 @@ fn tall_of(lanes: u32, keys: u32) -> u32
 }
 
 // Writes the grounds of so many lanes.
-fn put_grounds<K: Sink>(sink: &mut K, lanes: u32) -> Result<(), WriteFault>
+pub(crate) fn put_grounds<K: Sink>(sink: &mut K, lanes: u32) -> Result<(), WriteFault>
     requires { lanes ≤ MAX_VCPUS }
     ensures { Writes (K.state sink.old) (K.state sink.new) (grounds_text lanes) result }
 {
@@ -143,7 +143,7 @@ fn put_ground<K: Sink>(sink: &mut K, high: u32, pitch: u32, i: u32) -> Result<()
 }
 
 // Writes the lanes.
-fn put_lanes<K: Sink>(
+pub(crate) fn put_lanes<K: Sink>(
     sink: &mut K,
     frame: &Frame,
     first: u32,

@@ -185,7 +185,7 @@ fn put_count<K: Sink>(
     ensures { Writes (K.state sink.old) (K.state sink.new) (new_count x foot other count) result }
 {
     match other {
-        None => put_tick(sink, x, foot + 2400, count),
+        None => put_tick(sink, x, foot + 2400, u64::from(count)),
         Some(before) if before == count => Ok(()),
         Some(_) => put_change(sink, x, foot, count),
     }
@@ -197,7 +197,7 @@ fn put_change<K: Sink>(sink: &mut K, x: u64, foot: u32, count: u32) -> Result<()
     ensures { Writes (K.state sink.old) (K.state sink.new) (change_text x foot count) result }
 {
     put_change_line(sink, x, foot + 300)?;
-    put_tick(sink, x, foot + 2400, count)
+    put_tick(sink, x, foot + 2400, u64::from(count))
 }
 
 #[tactic(auto, unfolding(crate::specs::Rounds::plan_change_line))]

@@ -45,6 +45,17 @@ frame_of view options = record {
   picture = options.picture;
 }
 
+-- the ticks that are shown of a host's trace, which ends at a tick
+abbrev pub trace_frame : ChartOptions → ℕ → Frame
+trace_frame options end = record {
+  from = options.from;
+  to = end_at options.to end;
+  tick = options.tick_ns;
+  by_vcpu = options.by_vcpu;
+  is_run = true;
+  picture = options.picture;
+}
+
 -- how many lanes there could be: one for each vCPU, or for each core
 abbrev pub rows_in : View → ChartOptions → ℕ
 rows_in view options = if options.by_vcpu then length view.names.items else cores_in view
@@ -124,6 +135,15 @@ lanes_below f stretches first (suc n) = lanes_below f stretches first n ++ lane_
 abbrev pub chart_lanes : View → ChartOptions → List (List Bar)
 chart_lanes view options =
     lanes_below (frame_of view options) (shown_in view) options.first (lanes_of view options)
+
+-- the bars of the lanes that are shown of a host's trace in a frame
+abbrev pub trace_lanes : ChartOptions → Frame → View → List (List Bar)
+trace_lanes options f view = lanes_below f (shown_in view) options.first (lanes_of view options)
+
+-- nothing is shown of a host's trace that ends at a tick: no tick, or no lane
+abbrev pub shows_no_trace : ChartOptions → ℕ → View → Bool
+shows_no_trace options end view =
+    nat_le (trace_frame options end).to options.from || (lanes_of view options == 0)
 
 -- how much of the lanes is somebody's
 abbrev pub lanes_share : Frame → List (List Bar) → ℕ

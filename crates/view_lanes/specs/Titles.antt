@@ -1,8 +1,10 @@
 -- The title of a picture or a text, and the line below it.
-use Rattle.std.specs.Prelude.{ℕ, ◌==◌, ◌/◌, ◌%◌, ◌++◌, Bool, true, false, List, [], codes, decimal, if◌then◌else◌, ◌-◌, length}
+use Rattle.std.specs.Prelude.{ℕ, ◌==◌, ◌*◌, ◌/◌, ◌%◌, ◌++◌, Bool, true, false, List, [], codes, decimal, if◌then◌else◌, ◌-◌, length}
 use Rattle.view_doc.specs.declared.view.Stretch.{Stretch}
+use Rattle.view_doc.specs.declared.view.View.{View}
+use Rattle.view_doc.specs.Views.{shown_in}
 use Rattle.view_lanes.specs.Amounts.{tenths_ms}
-use Rattle.view_lanes.specs.Shown.{lanes_share, rounds_of, some_boxes, some_dense}
+use Rattle.view_lanes.specs.Shown.{cores_in, lanes_share, rounds_of, some_boxes, some_dense}
 use Rattle.view_lanes.specs.declared.frame.Bar.{Bar}
 use Rattle.view_lanes.specs.declared.frame.Frame.{Frame}
 use Rattle.view_lanes.specs.declared.titles.Head.{Head}
@@ -24,6 +26,10 @@ head_of f stretches cores vcpus lanes = record {
   columns = some_dense lanes;
   picture = f.picture;
 }
+
+-- what the head of a picture of these lanes of a view says
+abbrev pub head_in : Frame → View → List (List Bar) → Head
+head_in f view lanes = head_of f (shown_in view) (cores_in view) (length view.names.items) lanes
 
 -- the letter of a plural, where there are more than one
 abbrev pub plural : ℕ → List ℕ
@@ -84,3 +90,27 @@ sub_end h = if h.by_vcpu then lanes_note h.is_run else share_text h.share
 -- the line below the title: which ticks are shown, how long they last, and what of them
 abbrev pub sub_text : Head → List ℕ
 sub_text h = ticks_text h.from h.to h.lasting ++ sub_end h
+
+-- ---- a host's trace
+
+-- the title of a trace up to the count of vCPUs
+abbrev pub trace_kind : Head → List ℕ
+trace_kind h = title_of (codes "Trace") h.cores (plural h.cores) h.vcpus (plural h.vcpus)
+
+-- how many stints a trace has, with the letter of a plural
+unfoldable pub stints_text : ℕ → List ℕ → List ℕ
+stints_text stints many = codes ", " ++ (decimal stints ++ (codes " stint" ++ many))
+
+-- the whole title of a trace: its counts, and whose the lanes are
+abbrev pub trace_title : Head → List ℕ
+trace_title h = trace_kind h ++ (stints_text h.stints (plural h.stints) ++ lanes_word h.by_vcpu)
+
+-- which ns are shown, and how long they last in tenths of a millisecond
+unfoldable pub title_times : ℕ → ℕ → ℕ → List ℕ
+title_times from to lasting = decimal from ++ (codes " to " ++ (decimal to ++ (codes " ns: "
+    ++ (decimal (lasting / 10) ++ (codes "." ++ (decimal (lasting % 10) ++ codes " ms"))))))
+
+-- the line below the title of a trace whose ticks have so many ns: which ns are shown, how long they last, and what of
+-- them
+abbrev pub trace_sub : Head → ℕ → List ℕ
+trace_sub h tick = title_times (h.from * tick) (h.to * tick) h.lasting ++ sub_end h

@@ -26,6 +26,8 @@ pub use lanes::{Lane, held_in, is_dense, lanes_from};
 pub use laws::colours_of_a_lane_differ;
 pub use names::name_at;
 pub use rounds::{first_round, rounds_shown, used_counts};
-pub use shown::{cores_in, frame_of, lanes_of, shown_in, shows_nothing, span_of};
-pub use titles::{Head, head_of, put_sub, put_title};
+pub use shown::{
+    cores_in, frame_of, lanes_of, shown_in, shows_no_trace, shows_nothing, span_of, trace_frame,
+};
+pub use titles::{Head, head_in, head_of, put_sub, put_title, put_trace_sub, put_trace_title};
 pub use tones::{core_names, core_tones, vcpu_tones};

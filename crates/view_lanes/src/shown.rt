@@ -1,7 +1,7 @@
 ghost use Rattle.std.specs.Prelude.{◌≡◌, ◌<◌, ◌≤◌, ◌-◌, ◌^◌, length};
 ghost use Rattle.tab_core.specs.declared.TheConstants.{MAX_CORES, MAX_VCPUS};
 ghost use Rattle.view_doc.specs.Views.{reach_of, shown_in};
-ghost use Rattle.view_lanes.specs.Shown.{cores_in, frame_of, lanes_of, last_end, rounds_of, rows_in, shows_nothing, whole_of};
+ghost use Rattle.view_lanes.specs.Shown.{cores_in, end_at, frame_of, lanes_of, last_end, rounds_of, rows_in, shows_no_trace, shows_nothing, trace_frame, whole_of};
 
 use crate::frame::{ChartOptions, Frame};
 use tab_core::ROUND;
@@ -54,11 +54,7 @@ fn last_end(stretches: &[Stretch]) -> u32
 fn end_of(view: &View, options: &ChartOptions) -> u32
     ensures { result ≡ (frame_of view.now options.now).to }
 {
-    let whole = whole_of(shown_in(view));
-    match options.to {
-        Some(tick) => tick.min(whole),
-        None => whole,
-    }
+    end_at(options.to, whole_of(shown_in(view)))
 }
 
 // Where the last round ends, as far as ticks are counted.
@@ -92,6 +88,30 @@ pub fn frame_of(view: &View, options: &ChartOptions) -> Frame
     }
 }
 
+/// The ticks that are shown of a host's trace, which ends at a tick.
+pub fn trace_frame(options: &ChartOptions, end: u32) -> Frame
+    ensures { result ≡ trace_frame options.now end }
+{
+    Frame {
+        from: options.from,
+        to: end_at(options.to, end),
+        tick: options.tick_ns,
+        by_vcpu: options.by_vcpu,
+        is_run: true,
+        picture: options.picture,
+    }
+}
+
+// The end, or an earlier tick that was asked for.
+fn end_at(to: Option<u32>, end: u32) -> u32
+    ensures { result ≡ end_at to end }
+{
+    match to {
+        Some(tick) => tick.min(end),
+        None => end,
+    }
+}
+
 // How many cores or vCPUs could have a lane.
 fn rows_in(view: &View, options: &ChartOptions) -> u64
     ensures value { result ≡ rows_in view.now options.now }
@@ -122,6 +142,14 @@ pub fn shows_nothing(view: &View, options: &ChartOptions) -> bool
 {
     let frame = frame_of(view, options);
     frame.to <= frame.from || lanes_of(view, options) == 0
+}
+
+/// Whether a picture of a host's trace with these options, which ends at a tick, would show nothing: no tick, or no
+/// lane. Such a picture isn't drawn.
+pub fn shows_no_trace(view: &View, options: &ChartOptions, end: u32) -> bool
+    ensures { result ≡ shows_no_trace options.now end view.now }
+{
+    end_at(options.to, end) <= options.from || lanes_of(view, options) == 0
 }
 
 /// How many ticks are shown.

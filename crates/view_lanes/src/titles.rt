@@ -1,15 +1,15 @@
-ghost use Rattle.std.specs.Prelude.{◌≡◌, ◌≤◌, length};
+ghost use Rattle.std.specs.Prelude.{◌≡◌, ◌≤◌, ◌*◌, length};
 ghost use Rattle.tab_core.specs.declared.TheConstants.{MAX_VCPUS};
 ghost use Rattle.tab_io.specs.Sinks.{Writes};
-ghost use Rattle.view_lanes.specs.Titles.{counts_of, counts_text, head_of, kind_title, kind_word, lanes_note, lanes_word, plural, share_text, sub_end, sub_text, ticks_text, title_of, title_text};
+ghost use Rattle.view_lanes.specs.Titles.{counts_of, counts_text, head_in, head_of, kind_title, kind_word, lanes_note, lanes_word, plural, share_text, stints_text, sub_end, sub_text, ticks_text, title_of, title_text, title_times, trace_kind, trace_sub, trace_title};
 
 use crate::amounts::tenths_ms;
 use crate::frame::Frame;
 use crate::lanes::{Lane, share_in, some_boxes, some_dense};
-use crate::shown::{rounds_of, span_of};
+use crate::shown::{cores_in, rounds_of, shown_in, span_of};
 use tab_io::{Sink, WriteFault, write_all};
 use tab_words::{TextPiece, put_pieces};
-use view_doc::Stretch;
+use view_doc::{Stretch, View};
 
 /// What the head of a picture or of a text says.
 #[derive(Clone, Copy)]
@@ -60,6 +60,20 @@ pub fn head_of(frame: &Frame, stretches: &[Stretch], cores: u32, vcpus: u64, lan
         columns: some_dense(lanes),
         picture: frame.picture,
     }
+}
+
+/// What the head of a picture of these lanes of a view says. There are at most 256 lanes.
+pub fn head_in(frame: &Frame, view: &View, lanes: &[Lane]) -> Head
+    requires { length lanes.now ≤ MAX_VCPUS }
+    ensures { result ≡ head_in frame.now view.now lanes.now }
+{
+    head_of(
+        frame,
+        shown_in(view),
+        cores_in(view),
+        view.names.len() as u64,
+        lanes,
+    )
 }
 
 /// Writes the title: whether a plan or a run is shown, how many cores, vCPUs, rounds and stints it has,
@@ -159,6 +173,89 @@ fn put_counts_of<'a, K: Sink>(
             TextPiece::Wide(stints),
             TextPiece::Text(b" stint"),
             TextPiece::Text(more),
+        ],
+    )
+}
+
+/// Writes the title of a host's trace.
+pub fn put_trace_title<K: Sink>(sink: &mut K, head: &Head) -> Result<(), WriteFault>
+    ensures { Writes (K.state sink.old) (K.state sink.new) (trace_title head.now) result }
+{
+    put_trace_kind(sink, head)?;
+    put_stints(sink, head.stints)?;
+    put_lanes_word(sink, head.by_vcpu)
+}
+
+fn put_trace_kind<K: Sink>(sink: &mut K, head: &Head) -> Result<(), WriteFault>
+    ensures { Writes (K.state sink.old) (K.state sink.new) (trace_kind head.now) result }
+{
+    put_title_of(
+        sink,
+        b"Trace",
+        head.cores,
+        plural(u64::from(head.cores)),
+        head.vcpus,
+        plural(head.vcpus),
+    )
+}
+
+// Writes how many stints it has.
+fn put_stints<K: Sink>(sink: &mut K, stints: u64) -> Result<(), WriteFault>
+    ensures { Writes (K.state sink.old) (K.state sink.new) (stints_text stints (plural stints)) result }
+{
+    put_stints_of(sink, stints, plural(stints))
+}
+
+#[tactic(auto, unfolding(crate::specs::Titles::stints_text))]
+fn put_stints_of<K: Sink>(sink: &mut K, stints: u64, many: &[u8]) -> Result<(), WriteFault>
+    ensures { Writes (K.state sink.old) (K.state sink.new) (stints_text stints many.now) result }
+{
+    put_pieces(
+        sink,
+        &[
+            TextPiece::Text(b", "),
+            TextPiece::Wide(stints),
+            TextPiece::Text(b" stint"),
+            TextPiece::Text(many),
+        ],
+    )
+}
+
+/// Writes which times of a host's trace are shown, whose ticks have so many ns, and what of them.
+pub fn put_trace_sub<K: Sink>(sink: &mut K, head: &Head, tick: u16) -> Result<(), WriteFault>
+    ensures { Writes (K.state sink.old) (K.state sink.new) (trace_sub head.now tick) result }
+{
+    put_times(sink, head, tick)?;
+    put_sub_end(sink, head)
+}
+
+fn put_times<K: Sink>(sink: &mut K, head: &Head, tick: u16) -> Result<(), WriteFault>
+    ensures { Writes (K.state sink.old) (K.state sink.new)
+        (title_times (head.now.from * tick) (head.now.to * tick) head.now.lasting) result }
+{
+    put_times_of(
+        sink,
+        u64::from(head.from) * u64::from(tick),
+        u64::from(head.to) * u64::from(tick),
+        head.lasting,
+    )
+}
+
+#[tactic(auto, unfolding(crate::specs::Titles::title_times))]
+fn put_times_of<K: Sink>(sink: &mut K, from: u64, to: u64, lasting: u64) -> Result<(), WriteFault>
+    ensures { Writes (K.state sink.old) (K.state sink.new) (title_times from to lasting) result }
+{
+    put_pieces(
+        sink,
+        &[
+            TextPiece::Wide(from),
+            TextPiece::Text(b" to "),
+            TextPiece::Wide(to),
+            TextPiece::Text(b" ns: "),
+            TextPiece::Wide(lasting / 10),
+            TextPiece::Text(b"."),
+            TextPiece::Wide(lasting % 10),
+            TextPiece::Text(b" ms"),
         ],
     )
 }

@@ -1,6 +1,6 @@
 -- A view as a text for terminals: a line for each core, in it a letter for each column of ticks, and below them the
 -- vCPUs' letters.
-use Rattle.std.specs.Prelude.{ℕ, zero, suc, ◌+◌, ◌-◌, ◌/◌, ◌%◌, ◌==◌, ◌&&◌, ◌||◌, ◌++◌, nat_le, nat_lt, false, List, [], ◌∷◌, codes, decimal, if◌then◌else◌, length, min, slice_index_or}
+use Rattle.std.specs.Prelude.{ℕ, zero, suc, ◌+◌, ◌-◌, ◌/◌, ◌%◌, ◌==◌, ◌||◌, ◌++◌, nat_le, nat_lt, false, List, [], ◌∷◌, codes, decimal, if◌then◌else◌, length, min, slice_index_or}
 use Rattle.std.specs.List.{sum_by}
 use Rattle.tab_words.specs.Texts.{texts_below}
 use Rattle.vcpu_names.specs.Names.{name_at}

@@ -6,7 +6,9 @@
 mod letters;
 mod options;
 mod text_chart;
+mod trace_text;
 mod window;
 
 pub use options::TextOptions;
 pub use text_chart::write_text_chart;
+pub use trace_text::write_trace_text;

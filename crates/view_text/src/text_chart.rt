@@ -75,7 +75,7 @@ pub fn write_text_chart<K: Sink>(
 }
 
 // The lanes and ticks of the text, as those of a picture.
-fn by_core(options: &TextOptions) -> ChartOptions
+pub(crate) fn by_core(options: &TextOptions) -> ChartOptions
     ensures { result ≡ by_core options.now }
 {
     ChartOptions {
@@ -140,7 +140,7 @@ fn put_head_lines<K: Sink>(sink: &mut K, head: &Head) -> Result<(), WriteFault>
 }
 
 // Writes a line for each lane.
-fn put_lines<K: Sink>(
+pub(crate) fn put_lines<K: Sink>(
     sink: &mut K,
     frame: &Frame,
     columns: u32,
@@ -317,7 +317,7 @@ fn put_cell<K: Sink>(
 }
 
 // Writes the vCPUs' letters.
-fn put_keys<K: Sink>(sink: &mut K, names: &[Name]) -> Result<(), WriteFault>
+pub(crate) fn put_keys<K: Sink>(sink: &mut K, names: &[Name]) -> Result<(), WriteFault>
     ensures { Writes (K.state sink.old) (K.state sink.new)
         (texts_below (letter_key_at names.now) (lettered (length names.now))) result }
 {
@@ -335,7 +335,7 @@ fn lettered(vcpus: usize) -> usize
 }
 
 // Writes how many of so many vCPUs have no letter of their own, if some have none.
-fn put_more<K: Sink>(sink: &mut K, vcpus: usize) -> Result<(), WriteFault>
+pub(crate) fn put_more<K: Sink>(sink: &mut K, vcpus: usize) -> Result<(), WriteFault>
     ensures { Writes (K.state sink.old) (K.state sink.new) (more_vcpus_text vcpus) result }
 {
     if vcpus > 52 {

@@ -11,4 +11,4 @@ returns-in_err-put_change_line g c =
 pub returns : goal.returns
 returns g c =
     let at0 = left_behind _ _ _ _ _ _ _ _ _ (all_left _ _) refl c.put_change_line.ensures c.in_ok-put_change_line.was in
-    left_last _ _ _ _ _ _ at0 c.put_tick.ensures
+    left_last _ _ _ _ _ _ at0 (rw c.from.ensures at c.put_tick.ensures)

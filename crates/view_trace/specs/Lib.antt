@@ -1,0 +1,4 @@
+pub mod Drawable
+pub mod Inside
+pub mod Stints
+pub mod Traces
