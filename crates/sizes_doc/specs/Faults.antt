@@ -29,5 +29,6 @@ sizes_fault_words (sizes.TooMany line) =
     codes "size " ++ (decimal line ++ (codes ": more than " ++ (decimal MAX_VCPUS ++ codes " vCPUs in all")))
 sizes_fault_words (sizes.BadName line) =
     codes "size " ++ (decimal line ++ codes ": its name doesn't make names of vCPUs")
-sizes_fault_words (sizes.SameName vcpu) = codes "the name of vcpu " ++ (decimal vcpu ++ codes " stands twice")
+sizes_fault_words (sizes.SameName vcpu) = codes "two sizes make vCPUs of one name, the second time vcpu "
+    ++ (decimal vcpu ++ codes ": give each size a name of its own")
 sizes_fault_words sizes.NoMemory = codes "want of memory"

@@ -66,6 +66,12 @@ pub record HasBadName (size : Size) : Type 0 where
   pub within : number < size.vcpus
   pub bad : ¬ (IsName (vcpu_name size machine number))
 
+-- the vCPU of this number has this name
+pub record IsNamed (vcpus : List Vcpu) (vcpu : ℕ) (name : List ℕ) : Type 0 where
+  pub found : Vcpu
+  pub is_found : slice_get vcpus vcpu ≡ Some found
+  pub same : found.name ≡ name
+
 -- the vCPU of this number has the name of an earlier one
 pub record IsTwice (vcpus : List Vcpu) (vcpu : ℕ) : Type 0 where
   pub earlier : ℕ

@@ -84,7 +84,10 @@ impl fmt::Display for SizesFault {
             SizesFault::BadName { line } => {
                 write!(f, "size {line}: its name doesn't make names of vCPUs")
             }
-            SizesFault::SameName { vcpu } => write!(f, "the name of vcpu {vcpu} stands twice"),
+            SizesFault::SameName { vcpu } => write!(
+                f,
+                "two sizes make vCPUs of one name, the second time vcpu {vcpu}: give each size a name of its own"
+            ),
             SizesFault::NoMemory => write!(f, "want of memory"),
         }
     }

@@ -16,4 +16,4 @@ mod twice;
 pub use fault::{Part, SizesFault};
 pub use size::Size;
 pub use size_reader::read_sizes;
-pub use sized_host::host_of_sizes;
+pub use sized_host::{host_of_sizes, name_in_sizes};

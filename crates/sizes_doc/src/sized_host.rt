@@ -1,7 +1,7 @@
-ghost use Rattle.std.specs.Prelude.{◌≡◌, ◌<◌, ◌≤◌, ◌⊎◌, ◌++◌, ◌*◌, ◌+◌, All, IfErr, IfOk, IsSome, OnOk};
+ghost use Rattle.std.specs.Prelude.{◌≡◌, ◌<◌, ◌≤◌, ◌⊎◌, ◌++◌, ◌*◌, ◌+◌, All, IfErr, IfOk, IsSome, MatchOption, OnOk, length};
 ghost use Rattle.tab_core.specs.Name.{IsName};
 ghost use Rattle.tab_core.specs.declared.TheConstants.{MAX_CORES, MAX_TICK_NS, MAX_VCPUS, MIN_TICK_NS};
-ghost use Rattle.sizes_doc.specs.SizedHost.{HasBadName, HasSizesFault, IsHostOfSizes, machine_vcpus, size_vcpus, sized_vcpu, vcpu_name};
+ghost use Rattle.sizes_doc.specs.SizedHost.{HasBadName, HasSizesFault, IsHostOfSizes, IsNamed, machine_vcpus, size_vcpus, sized_vcpu, sizes_vcpus, vcpu_name};
 ghost use Rattle.sizes_doc.specs.declared.fault.SizesFault.TheVariants.{NoMemory, BadName};
 
 use crate::fault::SizesFault;
@@ -34,13 +34,7 @@ pub fn host_of_sizes(
     ensures admitted { IfOk result (λ host. All (λ vcpu. IsSome vcpu.reservation) host.vcpus) }
     ensures fault { IfErr result (λ fault. (fault ≡ NoMemory) ⊎ HasSizesFault sizes.now fault) }
 {
-    let mut vcpus = Vec::new(alloc);
-    for size in sizes {
-        if vcpus.len() + (size.machines * size.vcpus) as usize > MAX_VCPUS as usize {
-            return Err(SizesFault::TooMany { line: size.line });
-        }
-        push_size(alloc, &mut vcpus, size)?;
-    }
+    let vcpus = vcpus_of(alloc, sizes)?;
     if let Some(vcpu) = first_twice(alloc, vcpus.as_slice())? {
         return Err(SizesFault::SameName { vcpu });
     }
@@ -52,6 +46,40 @@ pub fn host_of_sizes(
         quantum: 1000,
         vcpus: Vcpus::of(vcpus),
     })
+}
+
+/// The name of the vCPU of this number, from 0, of those that the sizes make, if there are so many. `SameName` of
+/// `host_of_sizes` has such a number. The other faults are those of `host_of_sizes`.
+pub fn name_in_sizes(
+    alloc: Global,
+    sizes: &[Size<'_>],
+    vcpu: u32,
+) -> Result<Option<Vec<u8>>, SizesFault>
+    ensures name { IfOk result (λ found. MatchOption found (length (sizes_vcpus sizes.now) ≤ vcpu)
+        (λ name. IsNamed (sizes_vcpus sizes.now) vcpu name.items)) }
+    ensures fault { IfErr result (λ fault. (fault ≡ NoMemory) ⊎ HasSizesFault sizes.now fault) }
+{
+    let vcpus = vcpus_of(alloc, sizes)?;
+    match vcpus.get(vcpu as usize) {
+        Some(found) => Ok(Some(found.name.bytes().to_vec(alloc)?)),
+        None => Ok(None),
+    }
+}
+
+// The vCPUs of these sizes, one after the other.
+fn vcpus_of(alloc: Global, sizes: &[Size<'_>]) -> Result<Vec<Vcpu>, SizesFault>
+    ensures vcpus { IfOk result (λ vcpus. vcpus.items ≡ sizes_vcpus sizes.now) }
+    ensures few { IfOk result (λ vcpus. length vcpus.items ≤ MAX_VCPUS) }
+    ensures fault { IfErr result (λ fault. (fault ≡ NoMemory) ⊎ HasSizesFault sizes.now fault) }
+{
+    let mut vcpus = Vec::new(alloc);
+    for size in sizes {
+        if vcpus.len() + (size.machines * size.vcpus) as usize > MAX_VCPUS as usize {
+            return Err(SizesFault::TooMany { line: size.line });
+        }
+        push_size(alloc, &mut vcpus, size)?;
+    }
+    Ok(vcpus)
 }
 
 // Pushes the vCPUs of all VMs of a size.

@@ -55,6 +55,10 @@ pub(crate) enum Fault {
     },
     #[error("{0}")]
     BadSizes(SizesFault),
+    #[error("two sizes make a vCPU of the name {name}: give each size a name of its own")]
+    SameName {
+        name: String,
+    },
     #[error("{place}line {line} isn't {wanted}: '{text}'")]
     BadFleetLine {
         place: String,

@@ -2,7 +2,7 @@ ghost use Rattle.std.specs.Prelude.{◌≤◌, length};
 ghost use Rattle.tab_core.specs.declared.TheConstants.{MAX_CORES};
 
 use crate::fault::Fault;
-use crate::host::text_of;
+use crate::host::{host_fault, text_of};
 use crate::output::{finish, output_of};
 use clap::ArgMatches;
 use plan_make::PlanFault;
@@ -34,7 +34,7 @@ pub(crate) fn fit<T: Threads + Sync>(
     };
     let host = match host_of_sizes(rt.alloc(), cores, tick_ns, sizes.as_slice()) {
         Ok(host) => host,
-        Err(fault) => return Err(Fault::from(fault)),
+        Err(fault) => return Err(host_fault(rt.alloc(), sizes.as_slice(), fault)),
     };
     match fit_sizes(threads, rt.alloc(), &host, sizes.as_slice()) {
         Ok(fit) => put_fit(rt, &host, &fit),

@@ -4,9 +4,10 @@ ghost use Rattle.tab_core.specs.declared.TheConstants.{MAX_CORES, MAX_TICK_NS, M
 use crate::fault::Fault;
 use crate::input::input_of;
 use crate::output::{finish, output_of};
+use crate::shown::shown;
 use clap::ArgMatches;
 use host_gen::write_host;
-use sizes_doc::{host_of_sizes, read_sizes};
+use sizes_doc::{Size, SizesFault, host_of_sizes, name_in_sizes, read_sizes};
 use std::alloc::Global;
 use tab_core::{Host, MAX_CORES, MAX_TICK_NS, MIN_TICK_NS, TICK_NS};
 
@@ -69,9 +70,24 @@ fn host_from(alloc: Global, text: &[u8], cores: u32, tick_ns: u32) -> Result<Hos
     match read_sizes(alloc, text) {
         Ok(sizes) => match host_of_sizes(alloc, cores, tick_ns, sizes.as_slice()) {
             Ok(host) => Ok(host),
-            Err(fault) => Err(Fault::from(fault)),
+            Err(fault) => Err(host_fault(alloc, sizes.as_slice(), fault)),
         },
         Err(fault) => Err(Fault::from(fault)),
+    }
+}
+
+/// Why the sizes make no host. Where two make vCPUs of one name, the name is said.
+pub(crate) fn host_fault(alloc: Global, sizes: &[Size<'_>], fault: SizesFault) -> Fault {
+    let SizesFault::SameName { vcpu } = fault else {
+        return Fault::from(fault);
+    };
+    match name_in_sizes(alloc, sizes, vcpu) {
+        Ok(Some(name)) => match shown(alloc, &name) {
+            Ok(name) => Fault::SameName { name },
+            Err(_) => Fault::NoMemory,
+        },
+        Ok(None) => Fault::from(fault),
+        Err(fault) => Fault::from(fault),
     }
 }
 
