@@ -1,4 +1,5 @@
 pub mod ColumnLemmas
+pub mod JoinedLemmas
 pub mod KeyLemmas
 pub mod LaneLemmas
 pub mod PlaceLemmas

@@ -8,6 +8,7 @@ use Rattle.vcpu_names.specs.Names.{name_at}
 use Rattle.view_doc.specs.declared.view.Task.{Task}
 use Rattle.view_table.specs.declared.figures.Figures.{Figures}
 use Rattle.view_svg.specs.Frames.{letters_of, right_end, x_at}
+use Rattle.view_svg.specs.Joined.{boxes_of, is_one_box}
 use Rattle.view_svg.specs.Marks.{box_path, short_back, short_dots, short_front}
 use Rattle.view_lanes.specs.Amounts.{tenths_ms}
 use Rattle.view_lanes.specs.declared.frame.Bar.{Bar}
@@ -95,6 +96,22 @@ abbrev pub bar_cut : Frame → ℕ → ℕ → Bar → List ℕ
 bar_cut f y high bar =
     if nat_le (x_at f bar.from + 300) (x_at f bar.end) then cut_line (x_at f bar.from) y high else []
 
+-- a thin line where the second of two bars begins, if they are in one box
+abbrev pub seam_of : Frame → ℕ → ℕ → Option Bar → Option Bar → List ℕ
+seam_of f y high (Some bar) (Some next) = if is_one_box f bar next then bar_cut f y high next else []
+seam_of f y high _ _ = []
+
+-- the line where the bar after that of a number begins
+abbrev pub seam_after : Frame → ℕ → ℕ → List Bar → ℕ → List ℕ
+seam_after f y high bars n = seam_of f y high (slice_get bars n) (slice_get bars (n + 1))
+
+-- the lines in the boxes of a run
+abbrev pub seams_text : Frame → ℕ → ℕ → List Bar → List ℕ
+seams_text f y high bars =
+    if f.is_run
+    then codes "<path class=\"seam\" d=\"" ++ (texts_below (seam_after f y high bars) (length bars - 1) ++ codes "\"/>\n")
+    else []
+
 -- a name around a point
 unfoldable pub name_text : ℕ → ℕ → List ℕ → List ℕ
 name_text x y name = codes "<text x=\"" ++ (decimal x ++ (codes "\" y=\"" ++ (decimal y ++ (codes "\">"
@@ -122,12 +139,17 @@ unfoldable pub names_begin : ℕ → List ℕ
 names_begin letters = codes "\"/>\n<g class=\"name on\" text-anchor=\"middle\" font-size=\"" ++ (decimal letters
     ++ codes "\">\n")
 
--- the bars of a lane, each of its own
+-- the boxes of a lane, each of its own: their paths, a thin line where a bar begins in one, a line where a box begins,
+-- and their names
+abbrev pub boxes_text : Frame → ℕ → ℕ → List (List ℕ) → List Task → List ℕ → List Bar → List Bar → List ℕ
+boxes_text f y high names tasks colours bars boxes =
+    texts_below (vcpu_paths f y high names tasks colours boxes) (length names)
+    ++ (seams_text f y high bars ++ (codes "<path class=\"cut\" d=\"" ++ (flat_map (bar_cut f y high) boxes
+    ++ (names_begin (letters_of high) ++ (flat_map (bar_name f y high names) boxes ++ codes "</g>\n")))))
+
+-- the bars of a lane as boxes
 abbrev pub bars_text : Frame → ℕ → ℕ → List (List ℕ) → List Task → List ℕ → List Bar → List ℕ
-bars_text f y high names tasks colours bars =
-    texts_below (vcpu_paths f y high names tasks colours bars) (length names)
-    ++ (codes "<path class=\"cut\" d=\"" ++ (flat_map (bar_cut f y high) bars
-    ++ (names_begin (letters_of high) ++ (flat_map (bar_name f y high names) bars ++ codes "</g>\n"))))
+bars_text f y high names tasks colours bars = boxes_text f y high names tasks colours bars (boxes_of f bars)
 
 -- the ground of a lane
 abbrev pub ground_box : ℕ → ℕ → ℕ → List ℕ

@@ -4,20 +4,22 @@ ghost use Rattle.tab_core.specs.declared.TheConstants.{MAX_VCPUS};
 ghost use Rattle.tab_io.specs.Sinks.{Writes};
 ghost use Rattle.tab_words.specs.Texts.{texts_below};
 ghost use Rattle.view_svg.specs.Frames.{letters_of};
-ghost use Rattle.view_svg.specs.Lanes.{bar_box, bar_cut, bar_name, bars_text, box_of, cut_line, is_bar_of, line_in, name_text, names_begin, note_of, path_begin, path_end, titled_path, top_in, vcpu_path, vcpu_paths, way_class, way_word, width_of};
+ghost use Rattle.view_svg.specs.Lanes.{bar_box, bar_cut, bar_name, bars_text, box_of, boxes_text, cut_line, is_bar_of, line_in, name_text, names_begin, note_of, path_begin, path_end, titled_path, top_in, vcpu_path, vcpu_paths, way_class, way_word, width_of};
 
 use crate::gather::put_at_once;
 use crate::holders::holders_of;
+use crate::joined::boxes_of;
 use crate::marks::put_box;
 use crate::paths::{put_path_begin, put_path_end};
 use crate::places::{letters_of, x_at};
+use crate::seams::put_seams;
 use tab_core::{Name, VcpuNo};
 use tab_io::{Sink, WriteFault, write_all};
 use tab_words::{TextPiece, put_pieces};
 use view_doc::Task;
 use view_lanes::{Bar, Frame, name_at};
 
-// Writes the bars of a lane, each as a box.
+// Writes the bars of a lane as boxes. There are at most 342.
 pub(crate) fn put_bars<K: Sink>(
     sink: &mut K,
     frame: &Frame,
@@ -32,14 +34,49 @@ pub(crate) fn put_bars<K: Sink>(
     requires all { length names.now ≤ MAX_VCPUS }
     requires low { y < 2 ^ 31 }
     requires high { high ≤ 4000 }
+    requires boxes { length bars.now ≤ 342 }
     ensures { Writes (K.state sink.old) (K.state sink.new)
         (bars_text frame.now y high names.now tasks.now colours.now bars.now) result }
 {
-    put_all_paths(sink, frame, y, high, names, tasks, colours, bars)?;
+    let boxes = boxes_of(frame, bars);
+    put_all_boxes(
+        sink,
+        frame,
+        y,
+        high,
+        names,
+        tasks,
+        colours,
+        bars,
+        boxes.bars(),
+    )
+}
+
+// Writes the boxes of a lane, which are those of these bars.
+fn put_all_boxes<K: Sink>(
+    sink: &mut K,
+    frame: &Frame,
+    y: u32,
+    high: u32,
+    names: &[Name],
+    tasks: &[Task],
+    colours: &[u32],
+    bars: &[Bar],
+    boxes: &[Bar],
+) -> Result<(), WriteFault>
+    requires few { length names.now ≤ length colours.now }
+    requires all { length names.now ≤ MAX_VCPUS }
+    requires low { y < 2 ^ 31 }
+    requires high { high ≤ 4000 }
+    ensures { Writes (K.state sink.old) (K.state sink.new)
+        (boxes_text frame.now y high names.now tasks.now colours.now bars.now boxes.now) result }
+{
+    put_all_paths(sink, frame, y, high, names, tasks, colours, boxes)?;
+    put_seams(sink, frame, y, high, bars)?;
     write_all(sink, b"<path class=\"cut\" d=\"")?;
-    put_cuts(sink, frame, y, high, bars)?;
+    put_cuts(sink, frame, y, high, boxes)?;
     put_names_begin(sink, high)?;
-    put_names(sink, frame, y, high, names, bars)?;
+    put_names(sink, frame, y, high, names, boxes)?;
     write_all(sink, b"</g>\n")
 }
 
@@ -299,7 +336,7 @@ fn put_cuts<K: Sink>(
     Ok(())
 }
 
-fn put_cut<K: Sink>(
+pub(crate) fn put_cut<K: Sink>(
     sink: &mut K,
     frame: &Frame,
     y: u32,

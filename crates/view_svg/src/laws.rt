@@ -4,6 +4,7 @@ ghost use Rattle.view_doc.specs.declared.view.Stretch.{Stretch};
 ghost use Rattle.view_doc.specs.declared.view.Use.TheVariants.{Slot};
 ghost use Rattle.view_svg.specs.Columns.{level_of};
 ghost use Rattle.view_svg.specs.Frames.{right_end, x_at};
+ghost use Rattle.view_svg.specs.Joined.{AreInTurn, IsInOne, boxes_of};
 ghost use Rattle.view_svg.specs.Keys.{key_room, key_top, key_width, key_x};
 ghost use Rattle.view_lanes.specs.Shown.{is_on_lane, key_of, lane_bars};
 ghost use Rattle.view_lanes.specs.declared.frame.Bar.{Bar};
@@ -23,6 +24,16 @@ pub fn no_slot_vanishes()
     ensures wide { (f : Frame) (from end : ℕ) → f.to - f.from ≤ ROUND → f.from ≤ from → from < end
         → end ≤ f.to → x_at f from < x_at f end }
     ensures apart { (f : Frame) (end from : ℕ) → f.from < f.to → end ≤ from → x_at f end ≤ x_at f from }
+{}
+
+/// In a picture of a plan each bar is a box of its own. In one of a run each bar that has ticks is in exactly one box,
+/// where the bars of the lane come one after the other, and so do then the boxes. Whatever is in a box is of one vCPU, or
+/// on one core, and ran in one way.
+pub fn a_bar_is_in_one_box()
+    ensures alone { (f : Frame) (bars : List Bar) → f.is_run ≡ false → boxes_of f bars ≡ bars }
+    ensures one { (f : Frame) (tick : ℕ) (before after : List Bar) (bar : Bar) → bar.from < bar.end
+        → AreInTurn tick (before ++ bar ∷ after) → IsInOne bar (boxes_of f (before ++ bar ∷ after)) }
+    ensures apart { (f : Frame) (tick : ℕ) (bars : List Bar) → AreInTurn tick bars → AreInTurn tick (boxes_of f bars) }
 {}
 
 /// In a column of a lane the vCPUs are upon each other, and no higher than the lane.

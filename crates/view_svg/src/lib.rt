@@ -7,6 +7,7 @@
 mod columns;
 mod gather;
 mod holders;
+mod joined;
 mod keys;
 mod labels;
 mod lane;
@@ -16,11 +17,14 @@ mod levels;
 mod marks;
 mod paths;
 mod places;
+mod seams;
 mod waits;
 
 pub use holders::holders_in;
 pub use keys::{count_below, next_place};
 pub use lane_picture::put_lane;
-pub use laws::{a_column_stays_in_its_lane, a_key_has_its_place, no_slot_vanishes};
+pub use laws::{
+    a_bar_is_in_one_box, a_column_stays_in_its_lane, a_key_has_its_place, no_slot_vanishes,
+};
 pub use marks::{put_box, short_back, short_dots, short_front};
 pub use places::{foot_of, height_of, pitch_of, top_of, x_at};
