@@ -11,7 +11,6 @@ use host_doc::{HostFault, read_host};
 use period_choice::{TaskFault, tasks_of};
 use plan_make::{PlanFault, plan_with};
 use std::alloc::Global;
-use std::thread::Threads;
 use tab_core::{Host, Tasks};
 use toml::Table;
 
@@ -58,17 +57,12 @@ pub(crate) fn tasks_again(alloc: Global, host: &Host) -> Result<Option<Tasks>, A
 }
 
 // Whether `plan` has a plan of the host, whose vCPUs have these budgets.
-pub(crate) fn has_plan<R: Threads + Sync>(
-    rt: &R,
-    alloc: Global,
-    host: &Host,
-    tasks: Tasks,
-) -> Result<bool, AdviceFault>
+pub(crate) fn has_plan(alloc: Global, host: &Host, tasks: Tasks) -> Result<bool, AdviceFault>
     requires { AreTasksOf host.now tasks }
     ensures found { IfOk result (λ found. IsTrue found ↔ HostHasPlan host.now) }
     ensures cause { IfErr result (λ fault. fault ≡ AdviceFault.NoMemory) }
 {
-    match plan_with(rt, alloc, host, tasks) {
+    match plan_with(alloc, host, tasks) {
         Ok(_) => Ok(true),
         Err(PlanFault::NoRoom { .. }) => Ok(false),
         Err(PlanFault::NoPeriod { .. }) => Ok(false),

@@ -16,7 +16,6 @@ use crate::plan_lines::put_plan_line;
 use crate::room::{due_of, put_planned, put_room, put_unplanned};
 use host_doc::{HostFault, Key, Path};
 use std::alloc::Global;
-use std::thread::Threads;
 use tab_core::{Host, ROUND, Reservation, Tasks, Vcpu, VcpuNo};
 use tab_io::{Sink, WriteFault};
 
@@ -228,8 +227,7 @@ fn put_room_of<K: Sink>(sink: &mut K, host: &Host, tasks: &Tasks) -> Result<(), 
 }
 
 // Writes the advice on a host of which a vCPU can't be split beside those that stay.
-pub(crate) fn put_no_room_to_stay<R: Threads + Sync, K: Sink>(
-    rt: &R,
+pub(crate) fn put_no_room_to_stay<K: Sink>(
     alloc: Global,
     sink: &mut K,
     section: &[u8],
@@ -240,14 +238,13 @@ pub(crate) fn put_no_room_to_stay<R: Threads + Sync, K: Sink>(
         return Ok(());
     };
     match tasks_again(alloc, &host)? {
-        Some(tasks) => put_whether_planned(rt, alloc, sink, &host, tasks),
+        Some(tasks) => put_whether_planned(alloc, sink, &host, tasks),
         None => Ok(()),
     }
 }
 
 // Writes what the host's vCPUs are due, and whether `plan` has a plan for them.
-fn put_whether_planned<R: Threads + Sync, K: Sink>(
-    rt: &R,
+fn put_whether_planned<K: Sink>(
     alloc: Global,
     sink: &mut K,
     host: &Host,
@@ -258,7 +255,7 @@ fn put_whether_planned<R: Threads + Sync, K: Sink>(
 {
     let due = due_of(&tasks);
     let room = u64::from(host.cores) * u64::from(ROUND);
-    if has_plan(rt, alloc, host, tasks)? {
+    if has_plan(alloc, host, tasks)? {
         of_sink(put_planned(sink, due, room))
     } else {
         of_sink(put_unplanned(sink, due, room))

@@ -15,7 +15,6 @@ use crate::sections::put_sections;
 use crate::step_lines::{put_bad_step, put_due, put_waits};
 use crate::usage::put_usage;
 use std::alloc::Global;
-use std::thread::Threads;
 use tab_io::{Sink, WriteFault, write_all};
 use tab_words::{Command, read_words};
 
@@ -27,8 +26,7 @@ use tab_words::{Command, read_words};
 /// is written. Nor is anything where memory runs out (`NoMemory`). A host without room for `plan stay` is planned
 /// afresh, in the calling thread, to say whether `plan` has a plan. A fault of the sink leaves a prefix of the
 /// advice in it. Nothing is settled.
-pub fn write_advice<R: Threads + Sync, K: Sink>(
-    rt: &R,
+pub fn write_advice<K: Sink>(
     alloc: Global,
     words: &[String],
     input: &[u8],
@@ -42,7 +40,7 @@ pub fn write_advice<R: Threads + Sync, K: Sink>(
     match refusal {
         Refusal::Host(fault) => put_host(alloc, sink, section_at(input, 0), fault),
         Refusal::NoPeriod { vcpu } => put_no_period(alloc, sink, section_at(input, 0), vcpu),
-        Refusal::NoRoom => put_room_advice(rt, alloc, words, sink, section_at(input, 0)),
+        Refusal::NoRoom => put_room_advice(alloc, words, sink, section_at(input, 0)),
         Refusal::BadPlanLine { line } => put_line_advice(
             alloc,
             words,
@@ -56,8 +54,7 @@ pub fn write_advice<R: Threads + Sync, K: Sink>(
 }
 
 // Writes the advice on a host of which a vCPU finds no room, for the command of these words.
-fn put_room_advice<R: Threads + Sync, K: Sink>(
-    rt: &R,
+fn put_room_advice<K: Sink>(
     alloc: Global,
     words: &[String],
     sink: &mut K,
@@ -67,7 +64,7 @@ fn put_room_advice<R: Threads + Sync, K: Sink>(
         (K.state sink.old) (K.state sink.new) result }
 {
     if is_plan_stay(words) {
-        put_no_room_to_stay(rt, alloc, sink, section)
+        put_no_room_to_stay(alloc, sink, section)
     } else {
         put_no_room(alloc, sink, section)
     }

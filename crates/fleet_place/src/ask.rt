@@ -14,13 +14,11 @@ use period_choice::{TaskFault, tasks_of};
 use plan_make::{PlanFault, plan_with};
 use sizes_doc::{Size, SizesFault, host_of_sizes};
 use std::alloc::{AllocError, Global};
-use std::thread::Threads;
 use tab_core::{Host, NoMemory};
 use worst_fit::place as place_on_cores;
 
 // Whether the sizes make a host that is planned. Where worst fit leaves no vCPU over, it is; otherwise the planner says.
-pub(crate) fn is_accepted<R: Threads + Sync>(
-    rt: &R,
+pub(crate) fn is_accepted(
     alloc: Global,
     tick_ns: u32,
     cores: u32,
@@ -36,14 +34,14 @@ pub(crate) fn is_accepted<R: Threads + Sync>(
         ⊎ ((why : SizesFaultValue) × (fault ≡ NoHost why) × HasSizesFault sizes.now why)) }
 {
     match host_of_sizes(alloc, cores, tick_ns, sizes) {
-        Ok(host) => Ok(has_plan(rt, alloc, &host)?),
+        Ok(host) => Ok(has_plan(alloc, &host)?),
         Err(SizesFault::NoMemory) => Err(PlaceFault::NoMemory),
         Err(fault) => Err(PlaceFault::NoHost(fault)),
     }
 }
 
 // Whether the host has a plan.
-fn has_plan<R: Threads + Sync>(rt: &R, alloc: Global, host: &Host) -> Result<bool, NoMemory>
+fn has_plan(alloc: Global, host: &Host) -> Result<bool, NoMemory>
     ensures planned { IfOk result (λ has. has ≡ true → HasNoPlan host.now → ⊥) }
     ensures refused { IfOk result (λ has. has ≡ false → HasNoPlan host.now) }
 {
@@ -56,7 +54,7 @@ fn has_plan<R: Threads + Sync>(rt: &R, alloc: Global, host: &Host) -> Result<boo
     if placed.left.items().is_empty() {
         return Ok(true);
     }
-    match plan_with(rt, alloc, host, tasks) {
+    match plan_with(alloc, host, tasks) {
         Ok(_) => Ok(true),
         Err(PlanFault::NoRoom { .. }) => Ok(false),
         Err(PlanFault::NoPeriod { .. }) => Ok(false),

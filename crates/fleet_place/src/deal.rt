@@ -10,12 +10,10 @@ use crate::fleet_host::FleetHost;
 use crate::vm::Vm;
 use sizes_doc::Size;
 use std::alloc::Global;
-use std::thread::Threads;
 use tab_core::NoMemory;
 
 // Deals the VMs, in this order, to the hosts, and gives those that are left over.
-pub(crate) fn deal<'a, R: Threads + Sync>(
-    rt: &R,
+pub(crate) fn deal<'a>(
     alloc: Global,
     tick_ns: u32,
     hosts: &mut [FleetHost<'a>],
@@ -26,7 +24,7 @@ pub(crate) fn deal<'a, R: Threads + Sync>(
     ensures { IfOk result (λ left. Deal tick_ns hosts.old order.now hosts.new left.items) }
 {
     let mut refused = nothing_refused(alloc, hosts.len())?;
-    deal_all(rt, alloc, tick_ns, hosts, &mut refused, order)
+    deal_all(alloc, tick_ns, hosts, &mut refused, order)
 }
 
 // No size was refused at any host yet.
@@ -37,8 +35,7 @@ fn nothing_refused<'a>(alloc: Global, hosts: usize) -> Result<Vec<Option<Size<'a
 }
 
 // Deals the VMs, where these sizes were refused at the hosts.
-fn deal_all<'a, R: Threads + Sync>(
-    rt: &R,
+fn deal_all<'a>(
     alloc: Global,
     tick_ns: u32,
     hosts: &mut [FleetHost<'a>],
@@ -53,14 +50,13 @@ fn deal_all<'a, R: Threads + Sync>(
 {
     let mut left = Vec::new(alloc);
     for vm in order {
-        deal_next(rt, alloc, tick_ns, hosts, refused, &mut left, vm)?;
+        deal_next(alloc, tick_ns, hosts, refused, &mut left, vm)?;
     }
     Ok(left)
 }
 
 // Deals one VM: to the fullest host that it fits, or else to those that are left over.
-fn deal_next<'a, R: Threads + Sync>(
-    rt: &R,
+fn deal_next<'a>(
     alloc: Global,
     tick_ns: u32,
     hosts: &mut [FleetHost<'a>],
@@ -74,7 +70,7 @@ fn deal_next<'a, R: Threads + Sync>(
     requires known { KnowsRefusals tick_ns hosts.old refused.old }
     ensures { OnOk result (IsTurn tick_ns vm.now hosts.old left.old.items hosts.new left.new.items refused.new) }
 {
-    match fullest(rt, alloc, tick_ns, hosts, refused, vm)? {
+    match fullest(alloc, tick_ns, hosts, refused, vm)? {
         Some(number) => push_to(hosts, refused, number, vm)?,
         None => left.push(*vm)?,
     }
@@ -105,8 +101,7 @@ fn push_to<'a>(
 
 // The fullest host that the VM fits, and of those the lowest. Of each host the size is kept that was refused last beside
 // its VMs, so that the planner isn't asked again for one that is alike.
-fn fullest<'a, R: Threads + Sync>(
-    rt: &R,
+fn fullest<'a>(
     alloc: Global,
     tick_ns: u32,
     hosts: &[FleetHost<'a>],
@@ -125,7 +120,7 @@ fn fullest<'a, R: Threads + Sync>(
     let mut best = None;
     for (number, host) in hosts.iter().enumerate() {
         if is_fuller(hosts, best, host.room())
-            && joins(rt, alloc, tick_ns, host, &mut refused[number], vm)?
+            && joins(alloc, tick_ns, host, &mut refused[number], vm)?
         {
             best = Some(number);
         }
@@ -148,8 +143,7 @@ fn is_fuller(hosts: &[FleetHost<'_>], best: Option<usize>, room: u64) -> bool
 }
 
 // Whether the VM fits the host beside its VMs. If it doesn't since the planner refuses it, its size is kept.
-fn joins<'a, R: Threads + Sync>(
-    rt: &R,
+fn joins<'a>(
     alloc: Global,
     tick_ns: u32,
     host: &FleetHost<'a>,
@@ -167,7 +161,7 @@ fn joins<'a, R: Threads + Sync>(
         return Ok(false);
     }
     let sizes = sizes_with(alloc, host.vms(), vm)?;
-    let fits = is_accepted(rt, alloc, tick_ns, host.cores(), &sizes)?;
+    let fits = is_accepted(alloc, tick_ns, host.cores(), &sizes)?;
     if !fits {
         *refused = Some(vm.size);
     }

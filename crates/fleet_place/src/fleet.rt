@@ -12,7 +12,6 @@ use crate::order::put_in_order;
 use crate::stay::stay;
 use crate::vm::Vm;
 use std::alloc::Global;
-use std::thread::Threads;
 
 /// Where VMs are placed.
 #[derive(Drop)]
@@ -31,8 +30,7 @@ pub struct Placing<'a> {
 ///
 /// `NoHost` comes where VMs that are tried together make no host, since a name isn't of the form of a name or is there
 /// twice.
-pub fn place<'a, R: Threads + Sync>(
-    rt: &R,
+pub fn place<'a>(
     alloc: Global,
     tick_ns: u32,
     groups: &[Group<'a>],
@@ -50,11 +48,11 @@ pub fn place<'a, R: Threads + Sync>(
     let mut pool = Vec::new(alloc);
     let mut hosts = Vec::with_capacity(alloc, groups.len())?;
     for group in groups {
-        let host = stay(rt, alloc, tick_ns, group, &mut pool)?;
+        let host = stay(alloc, tick_ns, group, &mut pool)?;
         hosts.push(host)?;
     }
     pool.extend_from_slice(others)?;
     put_in_order(&mut pool)?;
-    let left = deal(rt, alloc, tick_ns, &mut hosts, &pool)?;
+    let left = deal(alloc, tick_ns, &mut hosts, &pool)?;
     Ok(Placing { hosts, left })
 }

@@ -11,12 +11,10 @@ use crate::fleet_host::FleetHost;
 use crate::group::Group;
 use crate::vm::Vm;
 use std::alloc::Global;
-use std::thread::Threads;
 use tab_core::{MAX_VCPUS, NoMemory, ROUND};
 
 // The host with those VMs that stay on it; the others are pushed to those that move.
-pub(crate) fn stay<'a, R: Threads + Sync>(
-    rt: &R,
+pub(crate) fn stay<'a>(
     alloc: Global,
     tick_ns: u32,
     group: &Group<'a>,
@@ -28,7 +26,7 @@ pub(crate) fn stay<'a, R: Threads + Sync>(
         × IsStay tick_ns group.now host mine) }
 {
     let vms = group.vms.as_slice();
-    let count = longest(rt, alloc, tick_ns, group.cores, vms)?;
+    let count = longest(alloc, tick_ns, group.cores, vms)?;
     moved.extend_from_slice(&vms[count..])?;
     let host = host_with(alloc, group.cores, &vms[..count])?;
     Ok(host)
@@ -50,13 +48,7 @@ fn host_with<'a>(alloc: Global, cores: u32, vms: &[Vm<'a>]) -> Result<FleetHost<
 }
 
 // How many of the VMs, from the first on, fit a host of so many cores: the greatest count.
-fn longest<R: Threads + Sync>(
-    rt: &R,
-    alloc: Global,
-    tick_ns: u32,
-    cores: u32,
-    vms: &[Vm<'_>],
-) -> Result<usize, PlaceFault>
+fn longest(alloc: Global, tick_ns: u32, cores: u32, vms: &[Vm<'_>]) -> Result<usize, PlaceFault>
     requires some_core { 1 ≤ cores }
     requires few_cores { cores ≤ MAX_CORES }
     requires least_tick { MIN_TICK_NS ≤ tick_ns }
@@ -68,7 +60,7 @@ fn longest<R: Threads + Sync>(
 {
     let mut count = vms.len();
     while count > 0 {
-        if is_fit(rt, alloc, tick_ns, cores, &vms[..count])? {
+        if is_fit(alloc, tick_ns, cores, &vms[..count])? {
             return Ok(count);
         }
         count -= 1;
@@ -77,13 +69,7 @@ fn longest<R: Threads + Sync>(
 }
 
 // Whether the VMs fit a host of so many cores.
-fn is_fit<R: Threads + Sync>(
-    rt: &R,
-    alloc: Global,
-    tick_ns: u32,
-    cores: u32,
-    vms: &[Vm<'_>],
-) -> Result<bool, PlaceFault>
+fn is_fit(alloc: Global, tick_ns: u32, cores: u32, vms: &[Vm<'_>]) -> Result<bool, PlaceFault>
     requires some_core { 1 ≤ cores }
     requires few_cores { cores ≤ MAX_CORES }
     requires least_tick { MIN_TICK_NS ≤ tick_ns }
@@ -95,7 +81,7 @@ fn is_fit<R: Threads + Sync>(
         return Ok(false);
     }
     let sizes = sizes_of(alloc, vms)?;
-    is_accepted(rt, alloc, tick_ns, cores, &sizes)
+    is_accepted(alloc, tick_ns, cores, &sizes)
 }
 
 // Whether the VMs take at most so many ticks of a round.

@@ -10,31 +10,24 @@ use plan_book::{Outcome, planned};
 use script_doc::Edits;
 use slice_table::{RowOwners, SliceTable};
 use std::alloc::Global;
-use std::thread::Threads;
 use tab_core::{CoreNo, Edit, Host, NoMemory};
 use table_form::Plan;
 
 // What is found for the last of these changes of a host.
-pub(crate) fn found_after<R: Threads + Sync>(
-    rt: &R,
-    alloc: Global,
-    host: &Host,
-    changes: &[Edits],
-) -> Found
+pub(crate) fn found_after(alloc: Global, host: &Host, changes: &[Edits]) -> Found
     requires some { 0 < length changes.now }
     requires within { All (AreEditsOf (length host.now.vcpus)) changes.now }
     ensures { IsFoundOf host.now changes.now (length changes.now - 1) result }
 {
     let last = changes.len() - 1;
-    match standing_after(rt, alloc, host, changes, last) {
-        Ok(mut standing) => found_next(rt, alloc, &mut standing, changes[last].items()),
+    match standing_after(alloc, host, changes, last) {
+        Ok(mut standing) => found_next(alloc, &mut standing, changes[last].items()),
         Err(_) => Found::NoMemory,
     }
 }
 
 // The host after the first so many changes.
-fn standing_after<R: Threads + Sync>(
-    rt: &R,
+fn standing_after(
     alloc: Global,
     host: &Host,
     changes: &[Edits],
@@ -46,38 +39,28 @@ fn standing_after<R: Threads + Sync>(
 {
     let mut standing = host.copy(alloc)?;
     for change in 0..count {
-        let _ = planned_next(rt, alloc, &mut standing, changes[change].items())?;
+        let _ = planned_next(alloc, &mut standing, changes[change].items())?;
     }
     Ok(standing)
 }
 
 // What is found for a change of the known host, which becomes the host after it.
-pub(crate) fn found_next<R: Threads + Sync>(
-    rt: &R,
-    alloc: Global,
-    standing: &mut Host,
-    edits: &[Edit],
-) -> Found
+pub(crate) fn found_next(alloc: Global, standing: &mut Host, edits: &[Edit]) -> Found
     requires { AreEditsOf (length standing.old.vcpus) edits.now }
     ensures { IsFoundNext standing.old edits.now result standing.new }
 {
-    match sought_next(rt, alloc, standing, edits) {
+    match sought_next(alloc, standing, edits) {
         Ok(found) => found,
         Err(_) => Found::NoMemory,
     }
 }
 
 // What is found for a change of the known host, where memory lasts.
-fn sought_next<R: Threads + Sync>(
-    rt: &R,
-    alloc: Global,
-    standing: &mut Host,
-    edits: &[Edit],
-) -> Result<Found, NoMemory>
+fn sought_next(alloc: Global, standing: &mut Host, edits: &[Edit]) -> Result<Found, NoMemory>
     requires { AreEditsOf (length standing.old.vcpus) edits.now }
     ensures { IfOk result (λ found. IsFoundNext standing.old edits.now found standing.new) }
 {
-    match planned_next(rt, alloc, standing, edits)? {
+    match planned_next(alloc, standing, edits)? {
         Ok(plan) => {
             let slices = tables_of(alloc, &plan)?;
             Ok(Found::Planned { plan, slices })
@@ -87,8 +70,7 @@ fn sought_next<R: Threads + Sync>(
 }
 
 // The plan of the host that the edits make, which is known from then on, or why it has none.
-fn planned_next<R: Threads + Sync>(
-    rt: &R,
+fn planned_next(
     alloc: Global,
     standing: &mut Host,
     edits: &[Edit],
@@ -100,7 +82,7 @@ fn planned_next<R: Threads + Sync>(
         IsChangeRefusedNext standing.old edits.now outcome standing.new)) }
 {
     let edited = standing.edited(alloc, edits)?;
-    match planned(rt, alloc, &edited)? {
+    match planned(alloc, &edited)? {
         Ok(plan) => {
             *standing = edited;
             Ok(Ok(plan))

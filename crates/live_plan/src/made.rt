@@ -11,7 +11,6 @@ use script_doc::Edits;
 use slice_table::SliceTable;
 use std::alloc::Global;
 use std::marker::Model;
-use std::thread::Threads;
 use tab_core::{Edit, Host, NoMemory};
 use table_form::Plan;
 
@@ -78,22 +77,17 @@ impl Made {
     /// Finds what the rules give for the value's host and edits. Where memory runs out, that is found.
     ///
     /// The changes before this one are planned anew.
-    pub fn fill<R: Threads + Sync>(&mut self, rt: &R, alloc: Global)
+    pub fn fill(&mut self, alloc: Global)
         ensures change { self.new.change ≡ self.old.change }
         ensures host { self.new.host ≡ self.old.host }
         ensures edits { self.new.edits ≡ self.old.edits }
     {
-        self.found = found_after(rt, alloc, &self.host, &self.edits);
+        self.found = found_after(alloc, &self.host, &self.edits);
     }
 
     // Fills in what a change makes, where the host after the changes before this one is known. It becomes
     // the host after this one.
-    pub(crate) fn fill_from<R: Threads + Sync>(
-        &mut self,
-        rt: &R,
-        alloc: Global,
-        standing: &mut Host,
-    )
+    pub(crate) fn fill_from(&mut self, alloc: Global, standing: &mut Host)
         requires { HostAfter self.old.host self.old.edits self.old.change standing.old }
         ensures change { self.new.change ≡ self.old.change }
         ensures host { self.new.host ≡ self.old.host }
@@ -102,7 +96,7 @@ impl Made {
             → HostAfter self.new.host self.new.edits (self.new.change + 1) standing.new }
     {
         let edits = self.edits[self.change as usize].items();
-        self.found = found_next(rt, alloc, standing, edits);
+        self.found = found_next(alloc, standing, edits);
     }
 
     /// What was found. It is what the rules give.

@@ -6,7 +6,6 @@ use crate::cell_shelf::CellShelf;
 use crate::planner::{LivePlanner, PlannerAnswer, planner_step};
 use crew_turns::Gate;
 use std::alloc::Global;
-use std::thread::Threads;
 use tab_core::NoMemory;
 
 // the planner's number as an actor
@@ -49,13 +48,7 @@ impl Maker {
 }
 
 // The planner's steps, until it has finished.
-pub(crate) fn plan_all<R: Threads + Sync, G: Gate>(
-    rt: &R,
-    alloc: Global,
-    book: &LiveBook,
-    mut maker: Maker,
-    gate: &G,
-) -> Maker
+pub(crate) fn plan_all<G: Gate>(alloc: Global, book: &LiveBook, mut maker: Maker, gate: &G) -> Maker
     requires maker { IsMakerOf book.now maker }
     ensures maker { IsMakerOf book.now result }
     ensures planned { HasPlanned book.now result.planner }
@@ -63,7 +56,7 @@ pub(crate) fn plan_all<R: Threads + Sync, G: Gate>(
     for told in 0..book.changes().len() + 1 {
         gate.pass(PLANNER, maker.steps);
         maker.steps = maker.steps.saturating_add(1);
-        match planner_step(rt, alloc, book, &mut maker.planner, &mut maker.shelf) {
+        match planner_step(alloc, book, &mut maker.planner, &mut maker.shelf) {
             PlannerAnswer::Told { change: _ } => {}
             PlannerAnswer::Stopped { change: _ } => return maker,
             PlannerAnswer::Finished => return maker,

@@ -18,7 +18,6 @@ use plan_book::{BookFault, ticks_in};
 use plan_make::{PlanFault, plan};
 use script_doc::{Act, Edits, Event, Script};
 use std::alloc::Global;
-use std::thread::Threads;
 use tab_core::{Host, NoMemory, VcpuSet};
 use table_form::{Outline, Plan};
 
@@ -28,12 +27,7 @@ impl LiveBook {
     ///
     /// But when memory runs out, `NoPeriod` comes exactly where a vCPU of the host has no period, and
     /// `NoRoom` exactly where each has one but one has no room.
-    pub fn make<R: Threads + Sync>(
-        rt: &R,
-        alloc: Global,
-        host: &Host,
-        script: &Script,
-    ) -> Result<LiveBook, BookFault>
+    pub fn make(alloc: Global, host: &Host, script: &Script) -> Result<LiveBook, BookFault>
         requires { AreWithin (length host.now.vcpus) script.now }
         ensures ok { IfOk result (IsLiveBookOf host.now script.now) }
         ensures no_period { (vcpu : ℕ) → IsErrOf result (PlanFault.NoPeriod vcpu)
@@ -48,7 +42,7 @@ impl LiveBook {
         ensures planned { (plan : PlanView) → IsPlanned host.now plan
             → IfErr result (λ fault. fault ≡ PlanFault.NoMemory) }
     {
-        let plan = plan(rt, alloc, host)?;
+        let plan = plan(alloc, host)?;
         Ok(book_of(alloc, host, script, plan)?)
     }
 }

@@ -6,7 +6,6 @@ use crate::made::Made;
 use crate::shelf::Shelf;
 use std::alloc::Global;
 use std::marker::Model;
-use std::thread::Threads;
 use tab_core::{Host, NoMemory};
 
 /// What became of a step of the planner.
@@ -81,8 +80,7 @@ impl LivePlanner {
 /// The planner and the shelf are of the book, and the shelf was handed the values of the changes before.
 /// `Stopped` comes exactly where the value that was put is out of memory, and `Told` exactly where it isn't.
 /// `Finished` comes exactly where all changes were reported or one stopped.
-pub fn planner_step<'a, R: Threads + Sync, H: Shelf<'a>>(
-    rt: &R,
+pub fn planner_step<'a, H: Shelf<'a>>(
     alloc: Global,
     book: &'a LiveBook,
     planner: &mut LivePlanner,
@@ -104,7 +102,7 @@ pub fn planner_step<'a, R: Threads + Sync, H: Shelf<'a>>(
         None => PlannerAnswer::Finished,
         Some(mut made) => {
             let change = planner.next;
-            made.fill_from(rt, alloc, &mut planner.standing);
+            made.fill_from(alloc, &mut planner.standing);
             let stopped = made.found().is_stopped();
             shelf.put(book, made);
             planner.next = change + 1;

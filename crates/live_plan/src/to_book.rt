@@ -15,7 +15,6 @@ use crate::shelf::Shelf;
 use plan_book::{Outcome, PlanBook, make_book_with};
 use script_doc::Script;
 use std::alloc::Global;
-use std::thread::Threads;
 use tab_core::{Host, NoMemory};
 use table_form::Plan;
 
@@ -24,13 +23,7 @@ impl LiveBook {
     /// so that only a change whose cell has nothing for it, or out of memory, is planned here.
     ///
     /// Fails only when memory runs out.
-    pub fn to_book<R: Threads + Sync>(
-        &self,
-        rt: &R,
-        alloc: Global,
-        host: &Host,
-        script: &Script,
-    ) -> Result<PlanBook, NoMemory>
+    pub fn to_book(&self, alloc: Global, host: &Host, script: &Script) -> Result<PlanBook, NoMemory>
         requires live { IsLiveBookOf host.now script.now self.now }
         requires within { AreWithin (length host.now.vcpus) script.now }
         ensures ok { IfOk result (IsBookOf host.now script.now) }
@@ -40,7 +33,7 @@ impl LiveBook {
     {
         let plan = copy_of_plan(alloc, self.plan())?;
         let mut made = outcomes_in(alloc, self)?;
-        make_book_with(rt, alloc, host, script, plan, &mut made)
+        make_book_with(alloc, host, script, plan, &mut made)
     }
 }
 

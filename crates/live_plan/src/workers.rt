@@ -106,9 +106,9 @@ pub fn run_live<'a, R: Threads + Wait + Sync, G: Gate>(
     let (maker, (mut seat, mut members, mut lead)) = join(
         rt,
         move || -> Maker
-            requires { IsSync R.row × IsSync G.row × IsMakerOf book.now maker }
+            requires { IsSync G.row × IsMakerOf book.now maker }
             ensures { IsMakerOf book.entry.now result × HasPlanned book.entry.now result.planner }
-        { plan_all(rt, alloc, book, maker, gate) },
+        { plan_all(alloc, book, maker, gate) },
         move || -> (RoundSeat, Vec<Player<Member<'_>>>, Player<Lead<'_>>)
             requires { IsSync R.row × IsSync G.row × IsSeatOf board.now seat
                 × AreHeld live_core_kind live_lead_kind members.items lead (view_of seat) }

@@ -15,7 +15,6 @@ use crate::outcome::Outcome;
 use crate::planning::planned_after;
 use script_doc::Act;
 use std::alloc::Global;
-use std::thread::Threads;
 use tab_core::{Edit, Host, NoMemory, VcpuSet};
 use table_form::Plan;
 
@@ -46,9 +45,8 @@ impl BookSoFar {
     }
 
     // What is known after one event more. What was made of a change before is taken from its place.
-    pub(crate) fn apply<R: Threads + Sync>(
+    pub(crate) fn apply(
         &mut self,
-        rt: &R,
         alloc: Global,
         act: &Act,
         made: &mut [Option<Result<Plan, Outcome>>],
@@ -68,7 +66,7 @@ impl BookSoFar {
             Act::Block(vcpu) => self.runnable.take(*vcpu),
             Act::Change(edits) => {
                 let before = taken(made, self.outcomes.len());
-                self.change(rt, alloc, edits.items(), before)?;
+                self.change(alloc, edits.items(), before)?;
             }
             Act::Burst { .. } => {}
         }
@@ -76,9 +74,8 @@ impl BookSoFar {
     }
 
     // A change of reservations: its host and its plan, or why it is refused, which may have been made before.
-    fn change<R: Threads + Sync>(
+    fn change(
         &mut self,
-        rt: &R,
         alloc: Global,
         edits: &[Edit],
         before: Option<Result<Plan, Outcome>>,
@@ -95,7 +92,7 @@ impl BookSoFar {
             → OnOk result (IsPlanFor self.new.host (known_of self.new).plan) }
     {
         let host = self.host.edited(alloc, edits)?;
-        match self.made_of(rt, alloc, &host, before)? {
+        match self.made_of(alloc, &host, before)? {
             Ok(plan) => {
                 self.take(host, plan)?;
                 Ok(())
@@ -108,9 +105,8 @@ impl BookSoFar {
     }
 
     // What was made before of the host that a change makes, or else is made of it now.
-    fn made_of<R: Threads + Sync>(
+    fn made_of(
         &self,
-        rt: &R,
         alloc: Global,
         host: &Host,
         before: Option<Result<Plan, Outcome>>,
@@ -123,7 +119,7 @@ impl BookSoFar {
     {
         match before {
             Some(made) => Ok(made),
-            None => planned_after(rt, alloc, host, &self.host, &self.plan().tasks),
+            None => planned_after(alloc, host, &self.host, &self.plan().tasks),
         }
     }
 

@@ -23,7 +23,6 @@ use crate::outcome::Outcome;
 use plan_make::{PlanFault, plan};
 use script_doc::{Event, Script};
 use std::alloc::Global;
-use std::thread::Threads;
 use tab_core::{Host, NoMemory};
 use table_form::{Course, Plan};
 
@@ -37,12 +36,7 @@ use table_form::{Course, Plan};
 /// But when memory runs out, `NoPeriod` comes exactly where a vCPU of the host itself has no
 /// period, and `NoRoom` exactly where each has one but one has no room. Running out of memory in
 /// planning a change ends the whole call by `NoMemory`, and never refuses that change.
-pub fn make_book<R: Threads + Sync>(
-    rt: &R,
-    alloc: Global,
-    host: &Host,
-    script: &Script,
-) -> Result<PlanBook, BookFault>
+pub fn make_book(alloc: Global, host: &Host, script: &Script) -> Result<PlanBook, BookFault>
     requires { AreWithin (length host.now.vcpus) script.now }
     ensures ok { IfOk result (IsBookOf host.now script.now) }
     ensures known { IfOk result (λ _. (n : ℕ) → n ≤ length script.now
@@ -75,8 +69,8 @@ pub fn make_book<R: Threads + Sync>(
     ensures planned { (plan : PlanView) → IsPlanned host.now plan
         → IfErr result (λ fault. fault ≡ PlanFault.NoMemory) }
 {
-    let first = plan(rt, alloc, host)?;
-    Ok(book_of(rt, alloc, host, script, first, &mut [])?)
+    let first = plan(alloc, host)?;
+    Ok(book_of(alloc, host, script, first, &mut [])?)
 }
 
 /// The book of a host and a script, where the host's plan is known, and of some changes what was made of them:
@@ -84,8 +78,7 @@ pub fn make_book<R: Threads + Sync>(
 /// number. Every other change is planned here. What is made use of is taken from its place.
 ///
 /// Fails only when memory runs out.
-pub fn make_book_with<R: Threads + Sync>(
-    rt: &R,
+pub fn make_book_with(
     alloc: Global,
     host: &Host,
     script: &Script,
@@ -100,13 +93,12 @@ pub fn make_book_with<R: Threads + Sync>(
     ensures vcpus { IfOk result (λ book. (n : ℕ) → n ≤ length script.now
         → length (plan_after book.course n).tasks ≡ length host.now.vcpus) }
 {
-    let book = book_of(rt, alloc, host, script, first, made)?;
+    let book = book_of(alloc, host, script, first, made)?;
     Ok(book)
 }
 
 // The book of what is known after each count of the events.
-fn book_of<R: Threads + Sync>(
-    rt: &R,
+fn book_of(
     alloc: Global,
     host: &Host,
     script: &Script,
@@ -118,7 +110,7 @@ fn book_of<R: Threads + Sync>(
     requires made { AreMadeOf host.now script.now made.old }
     ensures { IfOk result (IsBookMade host.now script.now) }
 {
-    let (so_far, counts) = known_at_end(rt, alloc, host, script, first, made)?;
+    let (so_far, counts) = known_at_end(alloc, host, script, first, made)?;
     let ticks = ticks_in(alloc, script.events())?;
     let course = Course::of(
         host.cores,
@@ -133,8 +125,7 @@ fn book_of<R: Threads + Sync>(
 }
 
 // What is known after the last event, and the plan's number and the runnable vCPUs after each count of events.
-fn known_at_end<R: Threads + Sync>(
-    rt: &R,
+fn known_at_end(
     alloc: Global,
     host: &Host,
     script: &Script,
@@ -149,7 +140,7 @@ fn known_at_end<R: Threads + Sync>(
 {
     let (mut so_far, mut counts) = known_at_first(alloc, host, script, first)?;
     for event in script.events() {
-        so_far.apply(rt, alloc, &event.act, made)?;
+        so_far.apply(alloc, &event.act, made)?;
         counts.add(&so_far)?;
     }
     Ok((so_far, counts))

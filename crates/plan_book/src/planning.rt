@@ -11,23 +11,18 @@ use crate::outcome::Outcome;
 use period_choice::tasks_after;
 use plan_make::{PlanFault, plan, plan_with};
 use std::alloc::{AllocError, Global};
-use std::thread::Threads;
 use tab_core::{Host, NoMemory, Tasks};
 use table_form::Plan;
 
 /// The plan of a host, or why it has none, as the outcome of a change that makes this host.
 ///
 /// Fails only when memory runs out.
-pub fn planned<R: Threads + Sync>(
-    rt: &R,
-    alloc: Global,
-    host: &Host,
-) -> Result<Result<Plan, Outcome>, NoMemory>
+pub fn planned(alloc: Global, host: &Host) -> Result<Result<Plan, Outcome>, NoMemory>
     ensures planned { IfOk result (λ made. IfOk made (λ plan. IsPlanned host.now (plan_view plan))) }
     ensures fits { IfOk result (λ made. IfOk made (λ plan. IsPlanFor host.now (plan_view plan))) }
     ensures unplanned { IfOk result (λ made. IfErr made (IsUnplanned host.now)) }
 {
-    match plan(rt, alloc, host) {
+    match plan(alloc, host) {
         Ok(plan) => Ok(Ok(plan)),
         Err(fault) => match outcome_of(&fault) {
             Some(outcome) => Ok(Err(outcome)),
@@ -38,8 +33,7 @@ pub fn planned<R: Threads + Sync>(
 
 // The plan of a host after a change, where the budgets with this tick of the host before the change are
 // known.
-pub(crate) fn planned_after<R: Threads + Sync>(
-    rt: &R,
+pub(crate) fn planned_after(
     alloc: Global,
     host: &Host,
     before: &Host,
@@ -51,7 +45,7 @@ pub(crate) fn planned_after<R: Threads + Sync>(
     ensures fits { IfOk result (λ made. IfOk made (λ plan. IsPlanFor host.now (plan_view plan))) }
     ensures unplanned { IfOk result (λ made. IfErr made (IsUnplanned host.now)) }
 {
-    match plan_after(rt, alloc, host, before, known) {
+    match plan_after(alloc, host, before, known) {
         Ok(plan) => Ok(Ok(plan)),
         Err(fault) => match outcome_of(&fault) {
             Some(outcome) => Ok(Err(outcome)),
@@ -61,13 +55,7 @@ pub(crate) fn planned_after<R: Threads + Sync>(
 }
 
 // The plan of a host, of whose vCPUs only those whose reservation isn't the one before get a new period.
-fn plan_after<R: Threads + Sync>(
-    rt: &R,
-    alloc: Global,
-    host: &Host,
-    before: &Host,
-    known: &Tasks,
-) -> Result<Plan, PlanFault>
+fn plan_after(alloc: Global, host: &Host, before: &Host, known: &Tasks) -> Result<Plan, PlanFault>
     requires tick { before.now.tick_ns ≡ host.now.tick_ns }
     requires known { AreTasksOf before.now known.now }
     ensures ok { IfOk result (λ plan. IsPlanned host.now (plan_view plan)) }
@@ -78,7 +66,7 @@ fn plan_after<R: Threads + Sync>(
         → IsFirstWithoutRoom host.now vcpu rest over }
 {
     let tasks = tasks_after(alloc, host, before, known)?;
-    plan_with(rt, alloc, host, tasks)
+    plan_with(alloc, host, tasks)
 }
 
 // The outcome that a refusal of the host's plan is, but when memory runs out.

@@ -15,7 +15,6 @@ use crate::layout::lay_out;
 use coalesce::join_slivers;
 use period_choice::tasks_of;
 use std::alloc::Global;
-use std::thread::Threads;
 use tab_core::{CoreNo, Host, Tasks};
 use table_form::Plan;
 
@@ -31,7 +30,7 @@ use table_form::Plan;
 /// All is made in the calling thread.
 ///
 /// Source: the planner of M. Vanga, A. Gujarati and B. B. Brandenburg, EuroSys 2018.
-pub fn plan<R: Threads + Sync>(rt: &R, alloc: Global, host: &Host) -> Result<Plan, PlanFault>
+pub fn plan(alloc: Global, host: &Host) -> Result<Plan, PlanFault>
     ensures ok { IfOk result (λ plan. IsPlanned host.now (plan_view plan)) }
     ensures only { IfOk result (λ plan. (other : PlanView) → IsPlanned host.now other
         → other ≡ plan_view plan) }
@@ -50,19 +49,14 @@ pub fn plan<R: Threads + Sync>(rt: &R, alloc: Global, host: &Host) -> Result<Pla
     ensures planned { (plan : PlanView) → IsPlanned host.now plan
         → IfErr result (λ fault. fault ≡ PlanFault.NoMemory) }
 {
-    plan_staying(rt, alloc, host, &[])
+    plan_staying(alloc, host, &[])
 }
 
 /// The plan of a host as `plan` makes it, where the budgets of the host's vCPUs are known.
 ///
 /// `NoRoom` comes as from `plan`, and `NoPeriod` never, since each admitted vCPU has a budget.
 /// `NoMemory` may come in place of any answer.
-pub fn plan_with<R: Threads + Sync>(
-    rt: &R,
-    alloc: Global,
-    host: &Host,
-    tasks: Tasks,
-) -> Result<Plan, PlanFault>
+pub fn plan_with(alloc: Global, host: &Host, tasks: Tasks) -> Result<Plan, PlanFault>
     requires { AreTasksOf host.now tasks }
     ensures ok { IfOk result (λ plan. IsPlanned host.now (plan_view plan)) }
     ensures only { IfOk result (λ plan. (other : PlanView) → IsPlanned host.now other
@@ -80,7 +74,7 @@ pub fn plan_with<R: Threads + Sync>(
     ensures planned { (plan : PlanView) → IsPlanned host.now plan
         → IfErr result (λ fault. fault ≡ PlanFault.NoMemory) }
 {
-    plan_staying_with(rt, alloc, host, tasks, &[])
+    plan_staying_with(alloc, host, tasks, &[])
 }
 
 /// The plan of a host that moves nobody without need: as `plan` makes it, but that vCPUs stay at their
@@ -96,8 +90,7 @@ pub fn plan_with<R: Threads + Sync>(
 /// that stay: then and only then, though `NoMemory` may come in place of any answer. Within the
 /// bound of worst fit none is without room, as with `plan`. Beyond it, a host that has a plan may
 /// have none that moves nobody.
-pub fn plan_staying<R: Threads + Sync>(
-    rt: &R,
+pub fn plan_staying(
     alloc: Global,
     host: &Host,
     old_homes: &[Option<CoreNo>],
@@ -125,12 +118,11 @@ pub fn plan_staying<R: Threads + Sync>(
         → IfErr result (λ fault. fault ≡ PlanFault.NoMemory) }
 {
     let tasks = tasks_of(alloc, host)?;
-    plan_staying_with(rt, alloc, host, tasks, old_homes)
+    plan_staying_with(alloc, host, tasks, old_homes)
 }
 
 // The plan of a host, where the budgets of the host's vCPUs are known. So `NoPeriod` never comes.
-fn plan_staying_with<R: Threads + Sync>(
-    _rt: &R,
+fn plan_staying_with(
     alloc: Global,
     host: &Host,
     tasks: Tasks,

@@ -81,7 +81,7 @@ pub fn run_script<R: Threads + Wait + Sync, G: Gate>(
     ensures board_left { IfErr result (λ r. IsSeatOf board.now r.0) }
     ensures left { IfErr result (λ r. LeavesView rounds host.now script.now r.1 (view_of r.0)) }
 {
-    let live = match LiveBook::make(rt, alloc, host, script) {
+    let live = match LiveBook::make(alloc, host, script) {
         Ok(live) => live,
         Err(fault) => return Err((seat, LiveFault::NotBegun(fault))),
     };
@@ -89,9 +89,7 @@ pub fn run_script<R: Threads + Wait + Sync, G: Gate>(
         return Err((seat, LiveFault::NotBegun(PlanFault::NoMemory)));
     };
     let (seat, crew, stopped) = run_ready(rt, alloc, &live, crew, rounds, board, seat, gate);
-    match ran_of(
-        rt, alloc, host, script, rounds, &live, &crew, &seat, stopped,
-    ) {
+    match ran_of(alloc, host, script, rounds, &live, &crew, &seat, stopped) {
         Ok(ran) => Ok((seat, ran)),
         Err(_) => Err((seat, LiveFault::Stopped)),
     }
@@ -122,8 +120,7 @@ fn run_ready<'a, R: Threads + Wait + Sync, G: Gate>(
 }
 
 // The run that was made, if memory didn't run out for a change and doesn't for what is reported.
-fn ran_of<R: Threads + Sync>(
-    rt: &R,
+fn ran_of(
     alloc: Global,
     host: &Host,
     script: &Script,
@@ -142,12 +139,11 @@ fn ran_of<R: Threads + Sync>(
     if stopped.is_some() {
         return Err(AllocError);
     }
-    told(rt, alloc, host, script, rounds, live, crew, seat)
+    told(alloc, host, script, rounds, live, crew, seat)
 }
 
 // The run that was made, with what its actors tell of it.
-fn told<R: Threads + Sync>(
-    rt: &R,
+fn told(
     alloc: Global,
     host: &Host,
     script: &Script,
@@ -162,7 +158,7 @@ fn told<R: Threads + Sync>(
     requires ran { LiveCrewHasRun live.now rounds crew.now (view_of seat.now) None }
     ensures { IfOk result (IsLiveRunOf rounds host.now script.now (view_of seat.now)) }
 {
-    let (book, changes, mut report) = room_to_tell(rt, alloc, live, host, script, rounds)?;
+    let (book, changes, mut report) = room_to_tell(alloc, live, host, script, rounds)?;
     seat.shown();
     let course = book.course();
     tell(course, course.cores(), crew, rounds, &mut report);
@@ -194,8 +190,7 @@ fn crew_for<'a, R: Threads>(
 }
 
 // The script's book, with the plans that the run made, what became of its changes, and room for the report of a run.
-fn room_to_tell<R: Threads + Sync>(
-    rt: &R,
+fn room_to_tell(
     alloc: Global,
     live: &LiveBook,
     host: &Host,
@@ -206,7 +201,7 @@ fn room_to_tell<R: Threads + Sync>(
     requires within { AreWithin (length host.now.vcpus) script.now }
     ensures { IfOk result (λ r. HasRoomToTell rounds host.now script.now r.0 r.1.items r.2) }
 {
-    let book = live.to_book(rt, alloc, host, script)?;
+    let book = live.to_book(alloc, host, script)?;
     let changes = changes_of(alloc, script.events(), book.outcomes())?;
     let report = Report::room(alloc, book.course(), rounds)?;
     Ok((book, changes, report))

@@ -10,7 +10,6 @@ use crate::more::more_of;
 use plan_make::{PlanFault, plan};
 use sizes_doc::Size;
 use std::alloc::Global;
-use std::thread::Threads;
 use tab_core::{Host, NoMemory};
 
 /// How the VMs of a host fit it.
@@ -38,12 +37,7 @@ pub struct Room<'a> {
 /// More VMs are planned after the host's own. A count of them is searched by doubling and halving, with at most some
 /// fifteen plans for each size. It is one that fits where one more doesn't. Whether each lower count fits too isn't
 /// proved.
-pub fn fit_sizes<'a, R: Threads + Sync>(
-    rt: &R,
-    alloc: Global,
-    host: &Host,
-    sizes: &[Size<'a>],
-) -> Result<Fit<'a>, PlanFault>
+pub fn fit_sizes<'a>(alloc: Global, host: &Host, sizes: &[Size<'a>]) -> Result<Fit<'a>, PlanFault>
     ensures fits { IfOk result (λ fit. IsFit host.now sizes.now fit.loads.items fit.rooms.items) }
     ensures cores { IfOk result (λ fit. length fit.loads.items ≡ host.now.cores) }
     ensures no_period { (vcpu : ℕ) → IsErrOf result (PlanFault.NoPeriod vcpu)
@@ -56,28 +50,23 @@ pub fn fit_sizes<'a, R: Threads + Sync>(
     ensures planned { (plan : PlanView) → IsPlanned host.now plan
         → IfErr result (λ fault. fault ≡ PlanFault.NoMemory) }
 {
-    let planned = match plan(rt, alloc, host) {
+    let planned = match plan(alloc, host) {
         Ok(planned) => planned,
         Err(fault) => return Err(fault),
     };
     let loads = loads_of(alloc, planned.tables.rows.items())?;
-    let rooms = rooms_of(rt, alloc, host, sizes)?;
+    let rooms = rooms_of(alloc, host, sizes)?;
     Ok(Fit { loads, rooms })
 }
 
 // How many more of each size fit.
-fn rooms_of<'a, R: Threads + Sync>(
-    rt: &R,
-    alloc: Global,
-    host: &Host,
-    sizes: &[Size<'a>],
-) -> Result<Vec<Room<'a>>, NoMemory>
+fn rooms_of<'a>(alloc: Global, host: &Host, sizes: &[Size<'a>]) -> Result<Vec<Room<'a>>, NoMemory>
     ensures sizes { IfOk result (λ rooms. map (λ room. room.size) rooms.items ≡ sizes.now) }
     ensures more { IfOk result (λ rooms. All (λ room. FitMore host.now room.size room.more) rooms.items) }
 {
     let mut rooms = Vec::with_capacity(alloc, sizes.len())?;
     for size in sizes {
-        let more = more_of(rt, alloc, host, size)?;
+        let more = more_of(alloc, host, size)?;
         rooms.push(Room { size: *size, more })?;
     }
     Ok(rooms)

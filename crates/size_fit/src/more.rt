@@ -6,17 +6,11 @@ use crate::more_vms::host_with;
 use plan_make::{PlanFault, plan};
 use sizes_doc::Size;
 use std::alloc::{AllocError, Global};
-use std::thread::Threads;
 use tab_core::{Host, MAX_VCPUS, NoMemory};
 
 // How many more VMs of the size fit the host: so many do, and with one more they don't. Counts are tried upwards, in
 // steps that double until one doesn't fit or half of what is left is less.
-pub(crate) fn more_of<R: Threads + Sync>(
-    rt: &R,
-    alloc: Global,
-    host: &Host,
-    size: &Size<'_>,
-) -> Result<u32, NoMemory>
+pub(crate) fn more_of(alloc: Global, host: &Host, size: &Size<'_>) -> Result<u32, NoMemory>
     ensures { IfOk result (FitMore host.now size.now) }
 {
     let left = MAX_VCPUS - host.vcpus.items().len() as u32;
@@ -24,7 +18,7 @@ pub(crate) fn more_of<R: Threads + Sync>(
     let mut fails = left / size.vcpus + 1;
     while fails - fits > 1 {
         let count = fits + (fits + 1).min((fails - fits) / 2);
-        let fit = fits_with(rt, alloc, host, size, count)?;
+        let fit = fits_with(alloc, host, size, count)?;
         if fit {
             fits = count;
         } else {
@@ -35,19 +29,13 @@ pub(crate) fn more_of<R: Threads + Sync>(
 }
 
 // Whether the host has a plan with so many more VMs of the size.
-fn fits_with<R: Threads + Sync>(
-    rt: &R,
-    alloc: Global,
-    host: &Host,
-    size: &Size<'_>,
-    count: u32,
-) -> Result<bool, NoMemory>
+fn fits_with(alloc: Global, host: &Host, size: &Size<'_>, count: u32) -> Result<bool, NoMemory>
     requires { length host.now.vcpus + count * size.now.vcpus ≤ MAX_VCPUS }
     ensures fit { IfOk result (λ fits. fits ≡ true → FitWith host.now size.now count) }
     ensures full { IfOk result (λ fits. fits ≡ false → FitNotWith host.now size.now count) }
 {
     let other = host_with(alloc, host, size, count)?;
-    match plan(rt, alloc, &other) {
+    match plan(alloc, &other) {
         Ok(_) => Ok(true),
         Err(PlanFault::NoPeriod { .. }) => Ok(false),
         Err(PlanFault::NoRoom { .. }) => Ok(false),

@@ -4,7 +4,6 @@ ghost use Rattle.std.specs.Prelude.{◌<◌, ◌^◌, length};
 
 use advice::{Due, Refusal, write_advice, write_prompt};
 use std::alloc::Global;
-use std::thread::Threads;
 use step_machine::{Answer, Phase};
 use tab_io::MemSink;
 use table_check::CheckFault;
@@ -25,8 +24,7 @@ pub(crate) fn prompt<P: Print>(output: &P, alloc: Global, words: &[String]) {
 
 /// Writes the advice on this status of a call with these words, which read this input. Where memory
 /// runs out, or the output fails, nothing more is written.
-pub(crate) fn tell<R: Threads + Sync, P: Print>(
-    rt: &R,
+pub(crate) fn tell<P: Print>(
     output: &P,
     alloc: Global,
     words: &[String],
@@ -41,7 +39,7 @@ pub(crate) fn tell<R: Threads + Sync, P: Print>(
     let Ok(mut sink) = MemSink::with_room(alloc, ROOM) else {
         return;
     };
-    let _ = write_advice(rt, alloc, words, input, &refusal, &mut sink);
+    let _ = write_advice(alloc, words, input, &refusal, &mut sink);
     let _ = output.write_all(sink.bytes());
 }
 

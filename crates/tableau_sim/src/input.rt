@@ -15,7 +15,6 @@ use crate::commands::replay::replay_reply;
 use crate::reply::{Reply, Stop, Text, stopped};
 use crate::status::Status;
 use std::alloc::Global;
-use std::thread::Threads;
 use tab_io::{ReadAll, Source, read_all};
 use tab_words::{Command, Sections, cut_sections, read_words};
 
@@ -23,28 +22,18 @@ use tab_words::{Command, Sections, cut_sections, read_words};
 pub const INPUT_LIMIT: usize = 4_194_304;
 
 // The reply to the words, and to what they ask to read.
-pub(crate) fn reply_to<R: Threads + Sync, S: Source>(
-    rt: &R,
-    alloc: Global,
-    words: &[String],
-    input: &mut S,
-) -> Reply
+pub(crate) fn reply_to<S: Source>(alloc: Global, words: &[String], input: &mut S) -> Reply
     requires { AreStill (texts words.now) }
     ensures { IsReplyTo Replies LeavesNothing (texts words.now) (S.state input.old) (S.state input.new) result }
 {
     match read_words(words) {
-        Ok(command) => reply_of(rt, alloc, command, input),
+        Ok(command) => reply_of(alloc, command, input),
         Err(usage) => Err(stopped(Status::Usage { place: usage.place })),
     }
 }
 
 // The command's reply, which reads the input where the command does.
-fn reply_of<R: Threads + Sync, S: Source>(
-    rt: &R,
-    alloc: Global,
-    command: Command,
-    input: &mut S,
-) -> Reply
+fn reply_of<S: Source>(alloc: Global, command: Command, input: &mut S) -> Reply
     requires good { HasGoodNumbers command }
     requires still { IsStillCommand command }
     ensures { (words : List (List ℕ)) → IsCommand words command
@@ -56,7 +45,7 @@ fn reply_of<R: Threads + Sync, S: Source>(
         Command::Gen { seed, cores, vcpus } => gen_reply(alloc, seed, cores, vcpus),
         command => match read_input(alloc, input) {
             Ok(bytes) => {
-                let reply = reply_to_input(rt, alloc, command, &bytes);
+                let reply = reply_to_input(alloc, command, &bytes);
                 input.take_back(bytes);
                 reply
             }
@@ -66,7 +55,7 @@ fn reply_of<R: Threads + Sync, S: Source>(
 }
 
 // What the command makes of its input. One row for each command that reads it.
-fn reply_to_input<R: Threads + Sync>(rt: &R, alloc: Global, command: Command, input: &[u8]) -> Reply
+fn reply_to_input(alloc: Global, command: Command, input: &[u8]) -> Reply
     requires good { HasGoodNumbers command }
     requires still { IsStillCommand command }
     requires reads { reads command ≡ true }
@@ -74,11 +63,11 @@ fn reply_to_input<R: Threads + Sync>(rt: &R, alloc: Global, command: Command, in
     ensures { Makes (Replies command input.now) result }
 {
     match command {
-        Command::Plan => plan_reply(rt, alloc, input),
+        Command::Plan => plan_reply(alloc, input),
         Command::PlanWhole => plan_whole_reply(alloc, input),
-        Command::PlanStay => plan_stay_reply(rt, alloc, input),
+        Command::PlanStay => plan_stay_reply(alloc, input),
         Command::Check => check_reply(alloc, input),
-        Command::Replay { rounds } => replay_reply(rt, alloc, rounds, input),
+        Command::Replay { rounds } => replay_reply(alloc, rounds, input),
         _ => unreachable!(),
     }
 }

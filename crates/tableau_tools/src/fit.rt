@@ -8,16 +8,11 @@ use clap::ArgMatches;
 use plan_make::PlanFault;
 use size_fit::{Fit, fit_sizes, write_fit, write_refusal};
 use sizes_doc::{host_of_sizes, read_sizes};
-use std::thread::Threads;
 use tab_core::{Host, MAX_CORES, MAX_TICK_NS, MIN_TICK_NS, TICK_NS};
 
 /// Does `fit`: it writes how VMs of sizes fit a host and how many more of each size would, or why they don't fit. It
 /// answers whether they do.
-pub(crate) fn fit<T: Threads + Sync>(
-    rt: &HostRuntime,
-    threads: &T,
-    matches: &ArgMatches<'_>,
-) -> Result<bool, Fault> {
+pub(crate) fn fit(rt: &HostRuntime, matches: &ArgMatches<'_>) -> Result<bool, Fault> {
     // (the words were refused where the cores or the tick are out of their range)
     let cores = matches
         .get_one::<u32>("cores")
@@ -36,7 +31,7 @@ pub(crate) fn fit<T: Threads + Sync>(
         Ok(host) => host,
         Err(fault) => return Err(host_fault(rt.alloc(), sizes.as_slice(), fault)),
     };
-    match fit_sizes(threads, rt.alloc(), &host, sizes.as_slice()) {
+    match fit_sizes(rt.alloc(), &host, sizes.as_slice()) {
         Ok(fit) => put_fit(rt, &host, &fit),
         Err(PlanFault::NoMemory) => Err(Fault::NoMemory),
         Err(fault) => put_refusal(rt, &host, &fault),

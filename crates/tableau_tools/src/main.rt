@@ -40,7 +40,6 @@ use fault::Fault;
 use program_words::is_closed_pipe;
 use std::io;
 use std::process::ExitCode;
-use std::thread::Threads;
 
 // The status of `diff` and of `judge` for a fault, since their 1 says that the plans differ, or that a promise was broken.
 const NO_ANSWER: u8 = 2;
@@ -56,7 +55,7 @@ fn main(rt: HostRuntime) -> ExitCode {
         }
         Err(_) => return ExitCode::from(refusal(&rt, &Fault::NoText)),
     };
-    match run(&rt, &rt, words.as_slice()) {
+    match run(&rt, words.as_slice()) {
         Ok(status) => ExitCode::from(status),
         Err(fault) => {
             let status = refusal(&rt, &fault);
@@ -87,14 +86,14 @@ fn refusal(rt: &HostRuntime, fault: &Fault) -> u8 {
     fault.status()
 }
 
-// Does what the words say. The planner takes the handle of threads, and starts none. The status is 0 or the command's, or
-// that of words that are no command: 1, or 2 for `diff` and `judge`.
-fn run<T: Threads + Sync>(rt: &HostRuntime, threads: &T, words: &[String]) -> Result<u8, Fault> {
+// Does what the words say. The status is 0 or the command's, or that of words that are no command: 1, or 2 for `diff` and
+// `judge`.
+fn run(rt: &HostRuntime, words: &[String]) -> Result<u8, Fault> {
     let Ok(command) = command::command(rt.alloc()) else {
         return Err(Fault::NoMemory);
     };
     match command.try_get_matches_from(words) {
-        Ok(matches) => dispatch(rt, threads, &matches),
+        Ok(matches) => dispatch(rt, &matches),
         Err(error) => told(rt, &error, if answers(words) { NO_ANSWER } else { 1 }),
     }
 }
@@ -115,11 +114,7 @@ fn told(rt: &HostRuntime, error: &Error, status: u8) -> Result<u8, Fault> {
 }
 
 // Does the command that was met, and gives its status.
-fn dispatch<T: Threads + Sync>(
-    rt: &HostRuntime,
-    threads: &T,
-    matches: &ArgMatches<'_>,
-) -> Result<u8, Fault> {
+fn dispatch(rt: &HostRuntime, matches: &ArgMatches<'_>) -> Result<u8, Fault> {
     match matches.subcommand() {
         Some(("chart", matches)) => chart::chart(rt, matches)?,
         Some(("export", matches)) => export::export(rt, matches)?,
@@ -127,8 +122,8 @@ fn dispatch<T: Threads + Sync>(
         Some(("report", matches)) => report::report(rt, matches)?,
         Some(("sections", matches)) => sections::sections(rt, matches)?,
         Some(("host", matches)) => host::host(rt, matches)?,
-        Some(("fit", matches)) => return Ok(status_of(fit::fit(rt, threads, matches)?)),
-        Some(("place", matches)) => return Ok(status_of(place::place_vms(rt, threads, matches)?)),
+        Some(("fit", matches)) => return Ok(status_of(fit::fit(rt, matches)?)),
+        Some(("place", matches)) => return Ok(status_of(place::place_vms(rt, matches)?)),
         Some(("diff", matches)) => return Ok(u8::from(diff::diff(rt, matches)?)),
         Some(("judge", matches)) => return Ok(u8::from(!judge::judge(rt, matches)?)),
         _ => {}

@@ -14,7 +14,6 @@ use crate::vms::{NamedVm, named_vms, vms_of};
 use clap::ArgMatches;
 use fleet_place::{FleetHost, Group, Placing, Vm, place, write_placing, write_summary};
 use std::alloc::Global;
-use std::thread::Threads;
 use tab_core::{MAX_TICK_NS, MIN_TICK_NS, TICK_NS};
 
 // What is written of a placing.
@@ -44,22 +43,17 @@ struct Asked<'w> {
 
 /// Does `place`: it writes which VM goes on which host, a summary, or documents of hosts. It answers whether each VM has
 /// a host.
-pub(crate) fn place_vms<T: Threads + Sync>(
-    rt: &HostRuntime,
-    threads: &T,
-    matches: &ArgMatches<'_>,
-) -> Result<bool, Fault> {
+pub(crate) fn place_vms(rt: &HostRuntime, matches: &ArgMatches<'_>) -> Result<bool, Fault> {
     let asked = asked_of(matches)?;
     let fleet = fleet_of(rt, matches)?;
     has_host(asked.form, fleet.hosts.len())?;
     let text = text_of(rt, matches)?;
-    place_sizes(rt, threads, &asked, fleet, &text)
+    place_sizes(rt, &asked, fleet, &text)
 }
 
 // Places the VMs of the sizes of a text.
-fn place_sizes<T: Threads + Sync>(
+fn place_sizes(
     rt: &HostRuntime,
-    threads: &T,
     asked: &Asked<'_>,
     fleet: Fleet<'_>,
     text: &[u8],
@@ -67,8 +61,8 @@ fn place_sizes<T: Threads + Sync>(
     requires { length text.now < 2 ^ 32 }
 {
     let vms = named_vms(rt.alloc(), text)?;
-    let placing = placing_of(rt, threads, asked, fleet, &vms)?;
-    let more = more_hosts(threads, rt.alloc(), asked.tick_ns, &placing)?;
+    let placing = placing_of(rt, asked, fleet, &vms)?;
+    let more = more_hosts(rt.alloc(), asked.tick_ns, &placing)?;
     put(rt, asked, &placing)?;
     tell_left(rt, &placing, more);
     Ok(placing.left.is_empty())
@@ -123,9 +117,8 @@ fn has_host(form: Form, count: usize) -> Result<(), Fault> {
 }
 
 // Places the VMs on the hosts, where those stay that were there by the lines of an earlier placing.
-fn placing_of<'a, T: Threads + Sync>(
+fn placing_of<'a>(
     rt: &HostRuntime,
-    threads: &T,
     asked: &Asked<'_>,
     fleet: Fleet<'a>,
     vms: &'a [NamedVm<'_>],
@@ -138,13 +131,12 @@ fn placing_of<'a, T: Threads + Sync>(
     let stays = stays_of(rt, asked.stay, vms)?;
     let all = vms_of(rt.alloc(), asked.tick_ns, vms)?;
     let others = put_back(rt.alloc(), &mut hosts, &all, &stays)?;
-    let placing = placed(threads, rt.alloc(), asked.tick_ns, &hosts, &others)?;
+    let placing = placed(rt.alloc(), asked.tick_ns, &hosts, &others)?;
     Ok(placing)
 }
 
 /// The VMs of the groups and the others, placed.
-pub(crate) fn placed<'a, T: Threads + Sync>(
-    threads: &T,
+pub(crate) fn placed<'a>(
     alloc: Global,
     tick_ns: u32,
     groups: &[Group<'a>],
@@ -154,7 +146,7 @@ pub(crate) fn placed<'a, T: Threads + Sync>(
     requires most_tick { tick_ns ≤ MAX_TICK_NS }
     ensures { IfOk result (λ placing. length placing.hosts.items ≡ length groups.now) }
 {
-    match place(threads, alloc, tick_ns, groups, others) {
+    match place(alloc, tick_ns, groups, others) {
         Ok(placing) => Ok(placing),
         Err(fault) => Err(Fault::from(fault)),
     }

@@ -81,7 +81,7 @@ fn try_row<R: Threads + Sync + Abort>(
     met: &mut Met,
 ) -> Result<(), Fail> {
     let case = case_of(seed, *row).ok_or("numbers out of bounds")?;
-    let scene = scene_of(rt, alloc, &case)?;
+    let scene = scene_of(alloc, &case)?;
     let events = scene.script.events();
     let setting = setting_of(
         alloc,

@@ -12,7 +12,6 @@ use rand_xoshiro::SplitMix64;
 use script_doc::{Script, read_script};
 use std::alloc::Global;
 use std::test::Fail;
-use std::thread::Threads;
 use tab_core::{
     Host, MAX_CORES, MAX_LATENCY_NS, MAX_TICK_NS, MIN_TICK_NS, Name, NoMemory, ROUND, Reservation,
     TICK_NS, Vcpu, Vcpus,
@@ -89,18 +88,14 @@ pub(crate) struct Scene {
 }
 
 // That of a case.
-pub(crate) fn scene_of<R: Threads + Sync>(
-    rt: &R,
-    alloc: Global,
-    case: &Case,
-) -> Result<Scene, Fail> {
+pub(crate) fn scene_of(alloc: Global, case: &Case) -> Result<Scene, Fail> {
     let host = host_of(alloc, case)?;
     let text = script_of(alloc, case)?;
     if text.len() >= 1_000_000 {
         return Err(Fail::from("a long script"));
     }
     let script = read_script(alloc, text.as_bytes(), &host, case.rounds)?;
-    match make_book(rt, alloc, &host, &script) {
+    match make_book(alloc, &host, &script) {
         Ok(book) => Ok(Scene {
             rounds: case.rounds,
             host,

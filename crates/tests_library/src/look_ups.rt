@@ -146,7 +146,7 @@ fn look_ups(rt: HostRuntime) -> Result<(), Fail> {
         (b"cores = 1", &IDLE_CUTS[..], &IDLE[..]),
     ] {
         let host = read_host(rt.alloc(), text)?;
-        let made = plan(&rt, rt.alloc(), &host)?;
+        let made = plan(rt.alloc(), &host)?;
         assert!(rt; all_are_cut(rt.alloc(), &made, cuts)?);
         assert!(rt; all_show::<Brand>(rt.alloc(), &made, expected, Blank::new(1))?);
     }

@@ -52,7 +52,7 @@ fn try_row<R: Threads + Wait + Sync>(
     met: &mut Met,
 ) -> Result<(), Fail> {
     let case = case_of(seed, *row).ok_or("numbers out of bounds")?;
-    let scene = scene_of(rt, alloc, &case)?;
+    let scene = scene_of(alloc, &case)?;
     note(met, &scene);
     try_run(rt, alloc, &scene, met)
 }

@@ -13,7 +13,6 @@ use rand_xoshiro::SplitMix64;
 use script_doc::read_script;
 use std::alloc::Global;
 use std::test::Fail;
-use std::thread::Threads;
 use tab_core::{Host, MAX_CORES, NoMemory, ROUND};
 
 // Cores, vCPUs, lag, rounds and events.
@@ -67,19 +66,15 @@ pub(crate) struct Scene {
 }
 
 // That of a case.
-pub(crate) fn scene_of<R: Threads + Sync>(
-    rt: &R,
-    alloc: Global,
-    case: &Case,
-) -> Result<Scene, Fail> {
+pub(crate) fn scene_of(alloc: Global, case: &Case) -> Result<Scene, Fail> {
     let host = host_of(alloc, case)?;
     let text = script_of(alloc, case)?;
     if text.len() >= 1_000_000 {
         return Err(Fail::from("a long script"));
     }
     let script = read_script(alloc, text.as_bytes(), &host, case.rounds)?;
-    let live = LiveBook::make(rt, alloc, &host, &script)?;
-    let anew = make_book(rt, alloc, &host, &script)?;
+    let live = LiveBook::make(alloc, &host, &script)?;
+    let anew = make_book(alloc, &host, &script)?;
     Ok(Scene {
         rounds: case.rounds,
         live,

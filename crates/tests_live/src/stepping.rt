@@ -15,13 +15,12 @@ use round_words::{RoundBoard, RoundSeat};
 use script_doc::read_script;
 use std::alloc::Global;
 use std::test::Fail;
-use std::thread::Threads;
 use tab_core::{
     Actor, CoreNo, Host, Name, NoMemory, Reservation, Stint, TICK_NS, Vcpu, VcpuNo, Vcpus,
 };
 
 // The live book of a core with a vCPU of one half, whose share changes at tick 20,000, which is the lag too.
-fn book_of<R: Threads + Sync>(rt: &R, alloc: Global) -> Result<LiveBook, Fail>
+fn book_of(alloc: Global) -> Result<LiveBook, Fail>
     ensures { IfOk result (λ book. length book.changes ≡ 1) }
 {
     let mut vcpus = Vec::new(alloc);
@@ -43,7 +42,7 @@ fn book_of<R: Threads + Sync>(rt: &R, alloc: Global) -> Result<LiveBook, Fail>
         vcpus: Vcpus::of(vcpus),
     };
     let script = read_script(alloc, b"20000 change set a 250000 102702600", &host, 2)?;
-    let book = LiveBook::make(rt, alloc, &host, &script)?;
+    let book = LiveBook::make(alloc, &host, &script)?;
     if book.changes().len() == 1 {
         Ok(book)
     } else {
@@ -166,16 +165,12 @@ fn a_core_waits_or_stops(alloc: Global, book: &LiveBook) -> Result<bool, Fail>
 // A change that is posted is needed by the core that enters its round. Where its shelf knows nothing of the change, or
 // that memory ran out for it, the core runs nothing; then it finds the plan, in which the vCPU has a quarter of 51,300
 // ticks.
-fn a_core_needs_what_is_posted<R: Threads + Sync>(
-    rt: &R,
-    alloc: Global,
-    book: &LiveBook,
-) -> Result<bool, Fail>
+fn a_core_needs_what_is_posted(alloc: Global, book: &LiveBook) -> Result<bool, Fail>
     requires { length book.now.changes ≡ 1 }
 {
     let (board, mut seat, mut actor, mut controller) = start(alloc, book)?;
     let mut made = Made::blank(alloc, book, 0)?;
-    made.fill(rt, alloc);
+    made.fill(alloc);
     let nothing = listed(alloc, book, None)?;
     let blank = listed(alloc, book, Some(Made::blank(alloc, book, 0)?))?;
     let planned = listed(alloc, book, Some(made))?;
@@ -226,11 +221,7 @@ fn a_controller_stops(alloc: Global, book: &LiveBook) -> Result<bool, Fail>
 }
 
 // A controller whose shelf over the cells misses a change twice posts it once the planner has put its value.
-fn a_controller_finds_what_it_missed<R: Threads + Sync>(
-    rt: &R,
-    alloc: Global,
-    book: &LiveBook,
-) -> Result<bool, Fail> {
+fn a_controller_finds_what_it_missed(alloc: Global, book: &LiveBook) -> Result<bool, Fail> {
     let (board, mut seat, _, mut controller) = start(alloc, book)?;
     let mut planner = LivePlanner::make(alloc, book)?;
     let mut own = CellShelf::of(book);
@@ -239,18 +230,18 @@ fn a_controller_finds_what_it_missed<R: Threads + Sync>(
     let posted = LiveControl::Posted { count: 1 };
     let first = posts(&board, &mut seat, &mut controller, book, &mut shelf, missed);
     let second = posts(&board, &mut seat, &mut controller, book, &mut shelf, missed);
-    let told = planner_step(rt, alloc, book, &mut planner, &mut own);
+    let told = planner_step(alloc, book, &mut planner, &mut own);
     let third = posts(&board, &mut seat, &mut controller, book, &mut shelf, posted);
     Ok(first && second && third && told == PlannerAnswer::Told { change: 0 })
 }
 
 #[test]
 fn steps_go_by_what_their_shelves_know(rt: HostRuntime) -> Result<(), Fail> {
-    let book = book_of(&rt, rt.alloc())?;
+    let book = book_of(rt.alloc())?;
     assert!(rt; a_core_waits_or_stops(rt.alloc(), &book)?);
-    assert!(rt; a_core_needs_what_is_posted(&rt, rt.alloc(), &book)?);
+    assert!(rt; a_core_needs_what_is_posted(rt.alloc(), &book)?);
     assert!(rt; a_controller_stops(rt.alloc(), &book)?);
     // (it puts the change's value into its cell)
-    assert!(rt; a_controller_finds_what_it_missed(&rt, rt.alloc(), &book)?);
+    assert!(rt; a_controller_finds_what_it_missed(rt.alloc(), &book)?);
     Ok(())
 }

@@ -7,7 +7,6 @@ use plan_book::{BookFault, Outcome, PlanBook, make_book};
 use script_doc::{Script, read_script};
 use std::alloc::Global;
 use std::test::Fail;
-use std::thread::Threads;
 use tab_core::{Host, Name, Reservation, TICK_NS, VcpuNo, Vcpus};
 
 // A share in ppm of a core that may wait a round.
@@ -43,17 +42,12 @@ fn host_of(
 }
 
 // The book of the host and the script of this text, for one round.
-pub(crate) fn book_of<R: Threads + Sync>(
-    rt: &R,
-    alloc: Global,
-    host: &Host,
-    text: &[u8],
-) -> Result<PlanBook, Fail>
+pub(crate) fn book_of(alloc: Global, host: &Host, text: &[u8]) -> Result<PlanBook, Fail>
     requires { length text.now < 1000 }
     ensures { IfOk result (λ book. FitsRounds book.course 1) }
 {
     let script = read_script(alloc, text, host, 1)?;
-    make_book(rt, alloc, host, &script).map_err(|fault| told(&fault))
+    make_book(alloc, host, &script).map_err(|fault| told(&fault))
 }
 
 fn told(fault: &BookFault) -> Fail {
@@ -136,7 +130,7 @@ fn each_count_has_its_plan_and_set(rt: HostRuntime) -> Result<(), Fail> {
     let host = host_of(rt.alloc(), patient(500_000), None)?;
     for (text, rows) in CASES {
         assert!(rt; text.len() < 1000);
-        let book = book_of(&rt, rt.alloc(), &host, text)?;
+        let book = book_of(rt.alloc(), &host, text)?;
         let count = book.course().count();
         assert_eq!(rt; count as usize + 1, rows.len(), "of {text:?}");
         for n in 0..count + 1 {
@@ -150,7 +144,6 @@ fn each_count_has_its_plan_and_set(rt: HostRuntime) -> Result<(), Fail> {
 fn the_course_has_the_ticks_and_the_numbers_of_the_host(rt: HostRuntime) -> Result<(), Fail> {
     let host = host_of(rt.alloc(), None, None)?;
     let book = book_of(
-        &rt,
         rt.alloc(),
         &host,
         b"3 wake a\n3 change set b 1000 0\n9 block a",

@@ -12,7 +12,6 @@ use rand_xoshiro::SplitMix64;
 use script_doc::read_script;
 use std::alloc::Global;
 use std::test::Fail;
-use std::thread::Threads;
 use tab_core::{Host, MAX_CORES, MAX_SLIVER, Name, NoMemory, ROUND, Vcpu, Vcpus};
 
 // Cores, vCPUs, lag, quantum, sliver, rounds and events.
@@ -105,11 +104,7 @@ fn host_of(alloc: Global, case: &Case) -> Result<Host, Fail> {
 }
 
 // The book of the case's host and script.
-pub(crate) fn book_of<R: Threads + Sync>(
-    rt: &R,
-    alloc: Global,
-    case: &Case,
-) -> Result<PlanBook, Fail>
+pub(crate) fn book_of(alloc: Global, case: &Case) -> Result<PlanBook, Fail>
     ensures { IfOk result (λ book. FitsRounds book.course case.now.rounds) }
 {
     let host = host_of(alloc, case)?;
@@ -118,7 +113,7 @@ pub(crate) fn book_of<R: Threads + Sync>(
         return Err(Fail::from("a long script"));
     }
     let script = read_script(alloc, text.as_bytes(), &host, case.rounds)?;
-    match make_book(rt, alloc, &host, &script) {
+    match make_book(alloc, &host, &script) {
         Ok(book) => Ok(book),
         Err(_) => Err(Fail::from("no book")),
     }

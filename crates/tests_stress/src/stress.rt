@@ -107,7 +107,7 @@ fn try_row<R: Threads + Sync + Abort>(
     met: &mut Met,
 ) -> Result<(), Fail> {
     let case = case_of(seed, *row).ok_or("numbers out of bounds")?;
-    let book = book_of(rt, alloc, &case)?;
+    let book = book_of(alloc, &case)?;
     let course = book.course();
     let setting = setting_of(alloc, course, case.rounds, case.capped())?;
     note_plans(met, &setting, book.outcomes());

@@ -16,7 +16,6 @@ use round_words::{RoundBoard, RoundSeat};
 use script_doc::read_script;
 use std::alloc::Global;
 use std::test::Fail;
-use std::thread::Threads;
 use tab_core::{CoreNo, NoMemory};
 use table_form::Course;
 
@@ -229,13 +228,7 @@ const ROWS: [Row<'static>; 3] = [
 ];
 
 // The book of a host and a script of these texts.
-fn book_by<R: Threads + Sync>(
-    rt: &R,
-    alloc: Global,
-    host: &[u8],
-    script: &[u8],
-    rounds: u32,
-) -> Result<PlanBook, Fail>
+fn book_by(alloc: Global, host: &[u8], script: &[u8], rounds: u32) -> Result<PlanBook, Fail>
     ensures { IfOk result (λ book. FitsRounds book.course rounds) }
 {
     if rounds == 0 || rounds > 10 || script.len() >= 1000 {
@@ -243,7 +236,7 @@ fn book_by<R: Threads + Sync>(
     }
     let host = read_host(alloc, host)?;
     let script = read_script(alloc, script, &host, rounds)?;
-    match make_book(rt, alloc, &host, &script) {
+    match make_book(alloc, &host, &script) {
         Ok(book) => Ok(book),
         Err(_) => Err(Fail::from("no book")),
     }
@@ -252,7 +245,7 @@ fn book_by<R: Threads + Sync>(
 #[test]
 fn actors_step_to_the_end(rt: HostRuntime) -> Result<(), Fail> {
     for (host, script, rounds, early, used, ticks) in ROWS {
-        let book = book_by(&rt, rt.alloc(), host, script, rounds)?;
+        let book = book_by(rt.alloc(), host, script, rounds)?;
         assert!(rt; runs_so(rt.alloc(), book.course(), rounds, early, used, ticks)?);
     }
     Ok(())

@@ -15,7 +15,7 @@ use table_form::Course;
 
 // The book of a host of so many cores, at most 20,000 ticks apart, of which one has a vCPU that wakes in the second
 // round of three.
-fn book_of<R: Threads + Sync>(rt: &R, alloc: Global, cores: u32) -> Result<PlanBook, Fail>
+fn book_of(alloc: Global, cores: u32) -> Result<PlanBook, Fail>
     requires { (1 ≤ cores) × (cores ≤ MAX_CORES) }
     ensures { IfOk result (λ book. FitsRounds book.course 3) }
 {
@@ -38,7 +38,7 @@ fn book_of<R: Threads + Sync>(rt: &R, alloc: Global, cores: u32) -> Result<PlanB
         vcpus: Vcpus::of(vcpus),
     };
     let script = read_script(alloc, b"150000 wake a", &host, 3)?;
-    match make_book(rt, alloc, &host, &script) {
+    match make_book(alloc, &host, &script) {
         Ok(book) => Ok(book),
         Err(_) => Err(Fail::from("no book")),
     }
@@ -86,7 +86,7 @@ impl Gate for SlowGate {
 #[test]
 fn runs_end_with_any_count_of_cores(rt: HostRuntime) -> Result<(), Fail> {
     for cores in [1, 2, 3] {
-        let book = book_of(&rt, rt.alloc(), cores)?;
+        let book = book_of(rt.alloc(), cores)?;
         for threads in [true, false] {
             let free = gets_to_the_end(&rt, rt.alloc(), book.course(), threads, &FreeGate)?;
             let slow = gets_to_the_end(&rt, rt.alloc(), book.course(), threads, &SlowGate)?;

@@ -9,21 +9,20 @@ use crate::reply::{Reply, Text};
 use crate::stops::{host_of, stop_of_plan};
 use plan_make::plan;
 use std::alloc::Global;
-use std::thread::Threads;
 use tab_words::Sections;
 
 // The reply of `plan` to its input.
-pub(crate) fn plan_reply<R: Threads + Sync>(rt: &R, alloc: Global, input: &[u8]) -> Reply
+pub(crate) fn plan_reply(alloc: Global, input: &[u8]) -> Reply
     requires { length input.now ≤ INPUT_LIMIT }
     ensures { Makes (OfSections 1 Plans input.now) result }
 {
     match cut(input, 1) {
-        Ok(sections) => plan_of(rt, alloc, &sections),
+        Ok(sections) => plan_of(alloc, &sections),
         Err(stop) => Err(stop),
     }
 }
 
-fn plan_of<R: Threads + Sync>(rt: &R, alloc: Global, sections: &Sections) -> Reply
+fn plan_of(alloc: Global, sections: &Sections) -> Reply
     requires { length sections.now ≡ 1 }
     ensures { Makes (Plans sections.now) result }
 {
@@ -31,7 +30,7 @@ fn plan_of<R: Threads + Sync>(rt: &R, alloc: Global, sections: &Sections) -> Rep
         Ok(host) => host,
         Err(stop) => return Err(stop),
     };
-    match plan(rt, alloc, &host) {
+    match plan(alloc, &host) {
         Ok(plan) => Ok(Text::Plan { host, plan }),
         Err(fault) => Err(stop_of_plan(fault, host)),
     }

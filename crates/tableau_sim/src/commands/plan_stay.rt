@@ -11,21 +11,20 @@ use crate::stops::{host_of, stop_of_plan};
 use plan_make::plan_staying;
 use plan_text::{ReadPlan, read_old_homes};
 use std::alloc::Global;
-use std::thread::Threads;
 use tab_words::Sections;
 
 // The reply of `plan stay` to its input.
-pub(crate) fn plan_stay_reply<R: Threads + Sync>(rt: &R, alloc: Global, input: &[u8]) -> Reply
+pub(crate) fn plan_stay_reply(alloc: Global, input: &[u8]) -> Reply
     requires { length input.now ≤ INPUT_LIMIT }
     ensures { Makes (OfSections 2 PlansStaying input.now) result }
 {
     match cut(input, 2) {
-        Ok(sections) => plan_stay_of(rt, alloc, &sections),
+        Ok(sections) => plan_stay_of(alloc, &sections),
         Err(stop) => Err(stop),
     }
 }
 
-fn plan_stay_of<R: Threads + Sync>(rt: &R, alloc: Global, sections: &Sections) -> Reply
+fn plan_stay_of(alloc: Global, sections: &Sections) -> Reply
     requires two { length sections.now ≡ 2 }
     requires short { (i : ℕ) → length (slice_index_or sections.now i []) < 2 ^ 32 }
     ensures { Makes (PlansStaying sections.now) result }
@@ -39,7 +38,7 @@ fn plan_stay_of<R: Threads + Sync>(rt: &R, alloc: Global, sections: &Sections) -
         Err(ReadPlan::BadLine { line }) => return Err(stopped(Status::BadPlanLine { line })),
         Err(ReadPlan::NoMemory) => return Err(Stop::NoMemory),
     };
-    match plan_staying(rt, alloc, &host, &homes) {
+    match plan_staying(alloc, &host, &homes) {
         Ok(plan) => Ok(Text::Plan { host, plan }),
         Err(fault) => Err(stop_of_plan(fault, host)),
     }

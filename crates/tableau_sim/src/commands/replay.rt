@@ -14,29 +14,23 @@ use crate::stops::{script_of, stop_of_plan};
 use plan_book::make_book;
 use script_doc::{Script, StepList, StepsFault, read_steps};
 use std::alloc::Global;
-use std::thread::Threads;
 use step_machine::{ReplayFault, replay};
 use tab_core::Host;
 use tab_words::Sections;
 
 // The reply of `replay` to its input.
-pub(crate) fn replay_reply<R: Threads + Sync>(
-    rt: &R,
-    alloc: Global,
-    rounds: u32,
-    input: &[u8],
-) -> Reply
+pub(crate) fn replay_reply(alloc: Global, rounds: u32, input: &[u8]) -> Reply
     requires within { length input.now ≤ INPUT_LIMIT }
     requires rounds { IsRoundCount rounds }
     ensures { Makes (OfSections 3 (Replays rounds) input.now) result }
 {
     match cut(input, 3) {
-        Ok(sections) => replay_of(rt, alloc, rounds, &sections),
+        Ok(sections) => replay_of(alloc, rounds, &sections),
         Err(stop) => Err(stop),
     }
 }
 
-fn replay_of<R: Threads + Sync>(rt: &R, alloc: Global, rounds: u32, sections: &Sections) -> Reply
+fn replay_of(alloc: Global, rounds: u32, sections: &Sections) -> Reply
     requires three { length sections.now ≡ 3 }
     requires short { (i : ℕ) → length (slice_index_or sections.now i []) < 2 ^ 32 }
     requires rounds { IsRoundCount rounds }
@@ -51,18 +45,11 @@ fn replay_of<R: Threads + Sync>(rt: &R, alloc: Global, rounds: u32, sections: &S
         Err(StepsFault::BadLine { line }) => return Err(stopped(Status::BadStep { line })),
         Err(StepsFault::NoMemory) => return Err(Stop::NoMemory),
     };
-    replay_of_parts(rt, alloc, rounds, host, script, list)
+    replay_of_parts(alloc, rounds, host, script, list)
 }
 
 // The reply of `replay` to a host, a script and steps.
-fn replay_of_parts<R: Threads + Sync>(
-    rt: &R,
-    alloc: Global,
-    rounds: u32,
-    host: Host,
-    script: Script,
-    list: StepList,
-) -> Reply
+fn replay_of_parts(alloc: Global, rounds: u32, host: Host, script: Script, list: StepList) -> Reply
     requires rounds { IsRoundCount rounds }
     requires within { AreWithin (length host.vcpus) script }
     requires in_run { AreInRun rounds script }
@@ -72,7 +59,7 @@ fn replay_of_parts<R: Threads + Sync>(
         (record { host = host; events = script; steps = list.steps; lines = list.lines })
         → Makes (Replays rounds sections) result }
 {
-    let book = match make_book(rt, alloc, &host, &script) {
+    let book = match make_book(alloc, &host, &script) {
         Ok(book) => book,
         Err(fault) => return Err(stop_of_plan(fault, host)),
     };

@@ -152,8 +152,7 @@ pub(crate) struct Prepared {
 }
 
 // Prepares a run of a host and a script, with room for what is reported of its bursts.
-fn prepare<R: Threads + Sync>(
-    rt: &R,
+fn prepare(
     alloc: Global,
     rounds: u32,
     mode: RunMode,
@@ -170,7 +169,7 @@ fn prepare<R: Threads + Sync>(
     ensures stop { IfErr result (λ stop. (view : ViewValue) (sections : List (List ℕ))
         → HasScript rounds sections host script → Makes (Runs rounds mode view sections) (Err stop)) }
 {
-    let book = match make_book(rt, alloc, &host, &script) {
+    let book = match make_book(alloc, &host, &script) {
         Ok(book) => book,
         Err(fault) => return Err(stop_of_plan(fault, host)),
     };
@@ -231,7 +230,7 @@ fn run_script<R: Threads + Sync, K: Sink, G: Gate>(
         (LeavesRun rounds mode (view_of seat) (view_of result.seat) sections)
         (view_of seat) (view_of result.seat) (K.state output.old) (K.state output.new) result.status }
 {
-    let (run, mut bursts) = match prepare(stage.rt, stage.alloc, rounds, mode, host, script) {
+    let (run, mut bursts) = match prepare(stage.alloc, rounds, mode, host, script) {
         Ok(ready) => ready,
         Err(stop) => {
             return Done {

@@ -62,7 +62,7 @@ fn run_test<R: Threads + Sync, K: Sink, G: Gate>(
     ensures answers { AnswersBy (Selftests seed (view_of result.seat)) (view_of result.seat ≡ view_of seat)
         (view_of seat) (view_of result.seat) (K.state output.old) (K.state output.new) result.status }
 {
-    let Ok((host, book)) = test_host(stage.rt, stage.alloc, seed) else {
+    let Ok((host, book)) = test_host(stage.alloc, seed) else {
         return Done {
             status: write_reply(output, Err(Stop::NoMemory)),
             seat,
@@ -93,16 +93,12 @@ fn run_test<R: Threads + Sync, K: Sink, G: Gate>(
 
 // The seed's host of 8 cores and 64 vCPUs, and its book without an event. No period and no room is
 // missing for a generated host (`host_gen::a_generated_host_is_within_the_bound`).
-fn test_host<R: Threads + Sync>(
-    rt: &R,
-    alloc: Global,
-    seed: u64,
-) -> Result<(Host, PlanBook), NoMemory>
+fn test_host(alloc: Global, seed: u64) -> Result<(Host, PlanBook), NoMemory>
     ensures { IfOk result (λ made. IsTestHost seed made.0 made.1) }
 {
     let host = generate(alloc, seed, 8, 64)?;
     let script = Script::of(Vec::new(alloc));
-    match make_book(rt, alloc, &host, &script) {
+    match make_book(alloc, &host, &script) {
         Ok(book) => Ok((host, book)),
         Err(PlanFault::NoMemory) => Err(AllocError),
         Err(PlanFault::NoPeriod { .. }) => unreachable!(),

@@ -89,7 +89,7 @@ fn ends_whole<R: Threads + Wait + Sync>(
 {
     let read = read_host(alloc, host.as_bytes())?;
     let events = read_script(alloc, script.as_bytes(), &read, rounds)?;
-    let book = match make_book(rt, alloc, &read, &events) {
+    let book = match make_book(alloc, &read, &events) {
         Ok(book) => book,
         Err(_) => return Err(Fail::from("no book")),
     };
