@@ -5,14 +5,14 @@ use Rattle.fleet_place.proofs.HeldLemmas.{take_more}
 use Rattle.fleet_place.proofs.deal.deal_all.Goals as goal
 
 pub loop-vm-init : goal.loop-vm-init
-loop-vm-init g c = record {
+loop-vm-init c = record {
   size = c.requires.sizes;
   knows = c.requires.known;
   dealt = subst (Deal c.args.tick_ns c.args.hosts.now _ c.args.hosts.now) (sym c.new-left.ensures.items) NoVm;
 }
 
 pub loop-vm-preserved : goal.loop-vm-preserved
-loop-vm-preserved g c =
+loop-vm-preserved c =
     let turn = c.in_ok-deal_next.ensures in
     record {
       size = turn.many;
@@ -22,7 +22,7 @@ loop-vm-preserved g c =
     }
 
 pub returns : goal.returns
-returns g c =
+returns c =
     let test = c.loop-vm-test.false in
     subst (λ order. Deal c.args.tick_ns c.args.hosts.now order c.loop-vm.hosts c.loop-vm.left.items)
     (take_all c.loop-vm.vm-index c.args.order.now (omega (arith, test))) c.loop-vm.invariant.dealt

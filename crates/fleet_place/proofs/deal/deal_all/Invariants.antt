@@ -5,7 +5,7 @@ use Rattle.fleet_place.proofs.deal.deal_all.Given as goal
 
 -- the VMs so far are dealt, and what is known of refusals
 abbrev pub invariant-loop-vm : goal.invariant-loop-vm
-invariant-loop-vm g l = record {
+invariant-loop-vm l = record {
   size : length l.refused ≡ length l.hosts;
   knows : KnowsRefusals l.tick_ns l.hosts l.refused;
   dealt : Deal l.tick_ns l.fn.hosts (take l.vm-index l.order) l.hosts l.left.items;

@@ -8,7 +8,7 @@ use Rattle.fleet_place.proofs.deal.fullest.Goals as goal
 use Rattle.fleet_place.proofs.deal.fullest.Goals.{then-is_fuller+in_ok-joins+then-branch, else-is_fuller, else-is_fuller-via-then-is_fuller+in_ok-joins+else-branch, else-is_fuller-via-else-is_fuller}
 
 pub loop-number-preserved : goal.loop-number-preserved
-loop-number-preserved g c =
+loop-number-preserved c =
     let host = c.index-hosts-number.result in
     let at : slice_get c.args.hosts.now c.loop-number.number ≡ Some host =
     slice_get_read c.args.hosts.now (length c.args.hosts.now) c.loop-number.number host refl c.loop-number-test.true
@@ -52,9 +52,9 @@ loop-number-preserved g c =
     ]
 
 pub returns-clause-some : goal.returns-clause-some
-returns-clause-some g c = fullest_of c.args.tick_ns c.args.hosts.now c.args.vm.now c.loop-number.number
+returns-clause-some c = fullest_of c.args.tick_ns c.args.hosts.now c.args.vm.now c.loop-number.number
     c.loop-number.best c.loop-number-test.false c.loop-number.invariant.best
 
 pub returns-clause-none : goal.returns-clause-none
-returns-clause-none g c = none_of c.args.tick_ns c.args.hosts.now c.args.vm.now c.loop-number.number
+returns-clause-none c = none_of c.args.tick_ns c.args.hosts.now c.args.vm.now c.loop-number.number
     c.loop-number.best c.loop-number-test.false c.loop-number.invariant.best

@@ -5,7 +5,7 @@ use Rattle.fleet_place.proofs.deal.fullest.Given as goal
 
 -- the best of the hosts so far, and what is known of refusals
 abbrev pub invariant-loop-number : goal.invariant-loop-number
-invariant-loop-number g l = record {
+invariant-loop-number l = record {
   size : length l.refused ≡ length l.hosts;
   knows : KnowsRefusals l.tick_ns l.hosts l.refused;
   best : BestSoFar l.tick_ns l.hosts l.vm l.number l.best;

@@ -7,7 +7,7 @@ use Rattle.fleet_place.proofs.deal.joins.Goals as goal
 use Rattle.fleet_place.proofs.deal.joins.Goals.{then-not-has_space-via-then-not-has_space, then-not-has_space-via-else-not-has_space+then-is_known}
 
 pub returns-then-not-has_space-clause-fits_not : goal.returns-then-not-has_space-clause-fits_not
-returns-then-not-has_space-clause-fits_not g c = λ is. elim c.then-not-has_space.branch [
+returns-then-not-has_space-clause-fits_not c = λ is. elim c.then-not-has_space.branch [
   | then-not-has_space-via-then-not-has_space w ↦
       elim (w.if-not-has_space.ensures.none (search rules)) [
         | inl much ↦ TooMuch (omega (arith, much, load_push c.args.host.now.vms c.args.vm.now))
@@ -19,7 +19,7 @@ returns-then-not-has_space-clause-fits_not g c = λ is. elim c.then-not-has_spac
 ]
 
 pub returns-clause-fits : goal.returns-clause-fits
-returns-clause-fits g c = λ yes.
+returns-clause-fits c = λ yes.
     let much = c.if-not-has_space.ensures.much (search rules) in
     let many = c.if-not-has_space.ensures.many (search rules) in
     let sizes : c.deref.result.now ≡ sizes_in (c.args.host.now.vms ++ c.args.vm.now ∷ []) =

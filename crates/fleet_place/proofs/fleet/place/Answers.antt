@@ -14,17 +14,17 @@ use Rattle.fleet_place.proofs.TurnLemmas.{stay_more}
 use Rattle.fleet_place.proofs.fleet.place.Goals as goal
 
 pub loop-group-init : goal.loop-group-init
-loop-group-init g c = rw (c.new-pool.ensures.items, c.in_ok-hosts.ensures.items) NoHost
+loop-group-init c = rw (c.new-pool.ensures.items, c.in_ok-hosts.ensures.items) NoHost
 
 pub loop-group-preserved : goal.loop-group-preserved
-loop-group-preserved g c =
+loop-group-preserved c =
     let p = c.in_ok-host.ensures in
     rw (c.in_ok-push.ensures.items, p.1)
     (stay_more c.args.tick_ns c.args.groups.now c.loop-group.group-index c.group-item.result c.loop-group.hosts.items
     c.loop-group.pool.items c.in_ok-host.host p.0 c.loop-group-test.true c.group-item.is c.loop-group.invariant p.2)
 
 pub returns-clause-cores : goal.returns-clause-cores
-returns-clause-cores g c =
+returns-clause-cores c =
     let same : (with_items c.loop-group.hosts c.deal.new.hosts).items ≡ c.deal.new.hosts =
     with_items_is c.loop-group.hosts c.deal.new.hosts
     (c.deal.auto.hosts ∙ (ap length c.deref_mut.ensures.value ∙ sym c.loop-group.hosts.ok.0)) in
@@ -46,7 +46,7 @@ returns-clause-cores g c =
     (placing_cores c.args.tick_ns c.args.groups.now c.args.others.now c.deal.new.hosts c.in_ok-left.left.items is)
 
 pub returns-clause-each : goal.returns-clause-each
-returns-clause-each g c =
+returns-clause-each c =
     let same : (with_items c.loop-group.hosts c.deal.new.hosts).items ≡ c.deal.new.hosts =
     with_items_is c.loop-group.hosts c.deal.new.hosts
     (c.deal.auto.hosts ∙ (ap length c.deref_mut.ensures.value ∙ sym c.loop-group.hosts.ok.0)) in
@@ -69,7 +69,7 @@ returns-clause-each g c =
     (placing_keeps c.args.tick_ns c.args.groups.now c.args.others.now c.deal.new.hosts c.in_ok-left.left.items is)
 
 pub returns-clause-fits : goal.returns-clause-fits
-returns-clause-fits g c =
+returns-clause-fits c =
     let same : (with_items c.loop-group.hosts c.deal.new.hosts).items ≡ c.deal.new.hosts =
     with_items_is c.loop-group.hosts c.deal.new.hosts
     (c.deal.auto.hosts ∙ (ap length c.deref_mut.ensures.value ∙ sym c.loop-group.hosts.ok.0)) in

@@ -4,10 +4,10 @@ use Rattle.fleet_place.proofs.stay.longest.Given as goal
 
 -- no greater count fits
 abbrev pub invariant-loop-count : goal.invariant-loop-count
-invariant-loop-count g l = record {
+invariant-loop-count l = record {
   few : l.count ≤ length l.vms;
   longest : (more : ℕ) → l.count < more → more ≤ length l.vms → FitsNot l.tick_ns l.cores (take more l.vms);
 }
 
 abbrev pub decreases-loop-count : goal.decreases-loop-count
-decreases-loop-count g l = l.count
+decreases-loop-count l = l.count

@@ -4,7 +4,7 @@ use Rattle.fleet_place.proofs.TurnLemmas.{stays_first}
 use Rattle.fleet_place.proofs.stay.stay.Goals as goal
 
 pub returns : goal.returns
-returns g c = (
+returns c = (
   drop c.in_ok-count.count c.as_slice-vms.result.now,
   c.in_ok-extend_from_slice.ensures.items
       ∙ ap (λ vms. c.args.moved.now.items ++ vms)

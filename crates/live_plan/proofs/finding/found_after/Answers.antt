@@ -7,7 +7,7 @@ use Rattle.live_plan.proofs.FindingLemmas.{found_of_next}
 use Rattle.live_plan.proofs.finding.found_after.Goals as goal
 
 pub found_next-requires-after_bounds : goal.found_next-requires-after_bounds
-found_next-requires-after_bounds g c κs within =
+found_next-requires-after_bounds c κs within =
     let last = length c.args.changes.now - 1 in
     let at : slice_get c.args.changes.now last ≡ Some c.items.result.now =
     subst (λ (es : List Edit). slice_get c.args.changes.now last ≡ Some es) (sym c.items.ensures)
@@ -16,7 +16,7 @@ found_next-requires-after_bounds g c κs within =
     c.in-Ok.ensures at
 
 pub returns-in-Ok : goal.returns-in-Ok
-returns-in-Ok g c =
+returns-in-Ok c =
     let last = length c.args.changes.now - 1 in
     let at : slice_get c.args.changes.now last ≡ Some c.items.result.now =
     subst (λ (es : List Edit). slice_get c.args.changes.now last ≡ Some es) (sym c.items.ensures)

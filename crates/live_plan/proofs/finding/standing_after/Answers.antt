@@ -8,7 +8,7 @@ use Rattle.live_plan.proofs.FindingLemmas.{made_after}
 use Rattle.live_plan.proofs.finding.standing_after.Goals as goal
 
 pub planned_next-requires-after_bounds : goal.planned_next-requires-after_bounds
-planned_next-requires-after_bounds g c κs within =
+planned_next-requires-after_bounds c κs within =
     let lt = c.loop-change-test.true in
     let at : slice_get c.args.changes.now c.loop-change.change ≡ Some c.items.result.now =
     subst (λ (es : List Edit). slice_get c.args.changes.now c.loop-change.change ≡ Some es) (sym c.items.ensures)
@@ -18,7 +18,7 @@ planned_next-requires-after_bounds g c κs within =
     c.loop-change.invariant at
 
 pub loop-change-preserved : goal.loop-change-preserved
-loop-change-preserved g c =
+loop-change-preserved c =
     let lt = c.loop-change-test.true in
     let one : suc c.loop-change.change ≡ c.loop-change.change + 1 = omega arith in
     let at : slice_get c.args.changes.now c.loop-change.change ≡ Some c.items.result.now =

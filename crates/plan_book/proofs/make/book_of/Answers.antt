@@ -6,7 +6,7 @@ use Rattle.plan_book.proofs.CourseOfBook.{book_is, form_of, outcomes_few}
 use Rattle.plan_book.proofs.make.book_of.Goals as goal
 
 pub of-course-requires : goal.of-course-requires
-of-course-requires g c =
+of-course-requires c =
     let known = c.in_ok-so_far.so_far in
     let counts = c.in_ok-so_far.counts in
     let form = form_of c.args.host.now c.args.script.now known _ _ c.in_ok-so_far.ensures
@@ -17,11 +17,11 @@ of-course-requires g c =
     known.plans.items counts.numbers.items counts.runnable.items)) (sym ticks) form
 
 pub of-requires : goal.of-requires
-of-requires g c =
+of-requires c =
     outcomes_few c.args.host.now c.args.script.now c.in_ok-so_far.so_far _ _ c.in_ok-so_far.ensures c.events.ensures.few_changes
 
 pub returns : goal.returns
-returns g c =
+returns c =
     let known = c.in_ok-so_far.so_far in
     let counts = c.in_ok-so_far.counts in
     record {

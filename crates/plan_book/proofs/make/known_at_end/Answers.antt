@@ -8,10 +8,10 @@ use Rattle.plan_book.proofs.MakingLemmas.{few_plans, known_next, invariant_next,
 use Rattle.plan_book.proofs.make.known_at_end.Goals as goal
 
 pub loop-event-init : goal.loop-event-init
-loop-event-init g c = record { book = c.in_ok-so_far.ensures; made = c.requires.made }
+loop-event-init c = record { book = c.in_ok-so_far.ensures; made = c.requires.made }
 
 pub apply-requires-clause-within : goal.apply-requires-clause-within
-apply-requires-clause-within g c _ _ =
+apply-requires-clause-within c _ _ =
     let same = c.events-event-items.ensures.same in
     next_within c.args.host.now c.args.script.now c.loop-event.event-index c.event-item.result
     c.loop-event.so_far _ _ c.loop-event.invariant.book c.requires.within
@@ -20,12 +20,12 @@ apply-requires-clause-within g c _ _ =
     ≡ get_or es c.loop-event.event-index c.event-item.result) same c.event-item.is)
 
 pub apply-requires-clause-tasks : goal.apply-requires-clause-tasks
-apply-requires-clause-tasks g c _ _ =
+apply-requires-clause-tasks c _ _ =
     (known_planned c.args.host.now c.args.script.now c.loop-event.event-index (known_of c.loop-event.so_far)
     c.loop-event.invariant.book.known).layout.is_start.tasks_are
 
 pub add-requires-clause-few : goal.add-requires-clause-few
-add-requires-clause-few g c =
+add-requires-clause-few c =
     let same = c.events-event-items.ensures.same in
     few_plans c.args.host.now c.args.script.now (c.loop-event.event-index + 1) c.apply.new.self
     (known_next c.args.host.now c.args.script.now c.loop-event.event-index c.event-item.result
@@ -36,7 +36,7 @@ add-requires-clause-few g c =
     c.in_ok-apply.ensures.applies) c.events-event-items.ensures.few_changes
 
 pub loop-event-preserved : goal.loop-event-preserved
-loop-event-preserved g c =
+loop-event-preserved c =
     let same = c.events-event-items.ensures.same in
     record {
       book = invariant_next c.args.host.now c.args.script.now c.loop-event.event-index c.event-item.result
@@ -52,7 +52,7 @@ loop-event-preserved g c =
     }
 
 pub apply-requires-clause-made : goal.apply-requires-clause-made
-apply-requires-clause-made g c _ _ =
+apply-requires-clause-made c _ _ =
     let same = c.events-event-items.ensures.same in
     next_made c.args.host.now c.args.script.now c.loop-event.event-index c.event-item.result c.loop-event.so_far
     c.loop-event.made c.loop-event.invariant.book.known
@@ -61,6 +61,6 @@ apply-requires-clause-made g c _ _ =
     ≡ get_or es c.loop-event.event-index c.event-item.result) same c.event-item.is) c.loop-event.invariant.made
 
 pub returns : goal.returns
-returns g c =
+returns c =
     invariant_at_end c.args.host.now _ c.args.script.now c.loop-event.event-index c.loop-event.so_far _ _
     c.loop-event.invariant.book c.events-event-items.ensures.same c.loop-event.auto.event-index-end c.loop-event-test.false

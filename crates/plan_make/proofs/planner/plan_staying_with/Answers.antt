@@ -7,33 +7,32 @@ use Rattle.period_choice.proofs.TasksLemmas.{tasks_where_reserved}
 use Rattle.coalesce.specs.Joining.{AreJoined}
 use Rattle.plan_make.proofs.OnePlan.{IsMadeOf, layout_is_planned}
 use Rattle.plan_make.proofs.StayingAnswer.{answer_of_fault, answer_of_memory, answer_of_plan}
-use Rattle.plan_make.proofs.planner.plan_staying_with.Given.{Over}
 use Rattle.plan_make.proofs.planner.plan_staying_with.Goals as goal
 
 pub returns-in_err-layout-clause-answer : goal.returns-in_err-layout-clause-answer
-returns-in_err-layout-clause-answer g c =
+returns-in_err-layout-clause-answer c =
     let p = err_from_is_err_and c.from_residual.result c.from_residual.ensures.1 in
     rw (p.1, p.2)
     (answer_of_fault c.args.old_homes.now c.args.host.now c.args.tasks c.in_err-layout.field-0.0 c.requires
     c.in_err-layout.ensures.fault c.in_err-layout.ensures.bound)
 
 pub returns-in_err-draft-clause-answer : goal.returns-in_err-draft-clause-answer
-returns-in_err-draft-clause-answer g c =
+returns-in_err-draft-clause-answer c =
     let p = err_from_is_err_and c.from_residual-in_err-draft.result c.from_residual-in_err-draft.ensures.1 in
     rw (p.1, p.2) (answer_of_memory c.args.old_homes.now c.args.host.now c.args.tasks c.requires)
 
 pub returns-in_err-join_slivers-clause-answer : goal.returns-in_err-join_slivers-clause-answer
-returns-in_err-join_slivers-clause-answer g c =
+returns-in_err-join_slivers-clause-answer c =
     let p = err_from_is_err_and c.from_residual-in_err-join_slivers.result
     c.from_residual-in_err-join_slivers.ensures.1 in
     rw (p.1, p.2) (answer_of_memory c.args.old_homes.now c.args.host.now c.args.tasks c.requires)
 
 -- what the calls made
-made : (g : Over) (c : goal.After-drop-draft-5 g)
+made : (c : goal.After-drop-draft-5)
     → IsMadeOf c.args.host.now c.args.tasks c.in_ok-layout.layout.cores
     c.in_ok-layout.layout.homes.items c.in_ok-draft.draft.pieces c.in_ok-draft.draft.tables.rows
     (plan_view c.in_ok-join_slivers.field-0)
-made g c = record {
+made c = record {
   pieces_are = c.in_ok-draft.ensures.pieces;
   rows_are = c.in_ok-draft.ensures.rows;
   tasks_are = c.in_ok-join_slivers.ensures.tasks ∙ c.in_ok-draft.ensures.tasks;
@@ -45,8 +44,8 @@ made g c = record {
 }
 
 pub returns-clause-answer : goal.returns-clause-answer
-returns-clause-answer g c =
-    let are_made = made g c in
+returns-clause-answer c =
+    let are_made = made c in
     answer_of_plan c.args.old_homes.now c.args.host.now _
     (layout_is_planned c.args.old_homes.now c.args.host.now _ _ _ _ _ _ c.in_ok-layout.ensures.layout
     are_made)

@@ -14,7 +14,7 @@ use Rattle.run_live.proofs.LiveRunsLemmas.{are_told, report_of, runs_so_far}
 use Rattle.run_live.proofs.ran.told.Goals as goal
 
 pub tell-requires-clause-told : goal.tell-requires-clause-told
-tell-requires-clause-told g c =
+tell-requires-clause-told c =
     let r = c.requires.ran in
     let v : View = view_of c.args.seat.now in
     let b = c.args.live.now in
@@ -27,7 +27,7 @@ tell-requires-clause-told g c =
     (r.counts course live) c.args.rounds r.rounds_are c.requires.few
 
 pub returns : goal.returns
-returns g c =
+returns c =
     let r = c.requires.ran in
     let v : View = view_of c.args.seat.now in
     let b = c.args.live.now in

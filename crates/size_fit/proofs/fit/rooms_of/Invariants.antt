@@ -5,7 +5,7 @@ use Rattle.size_fit.proofs.fit.rooms_of.Given as goal
 
 -- the sizes so far
 abbrev pub invariant-loop-size : goal.invariant-loop-size
-invariant-loop-size g l = record {
+invariant-loop-size l = record {
   sizes : map (λ room. room.size) l.rooms.items ≡ take l.size-index l.sizes;
   more : All (λ room. FitMore l.host room.size room.more) l.rooms.items;
 }

@@ -3,4 +3,4 @@ use Rattle.std.proofs.lemmas.List.{length-map}
 use Rattle.tableau_tools.proofs.place.placed.Goals as goal
 
 pub returns-in-Ok : goal.returns-in-Ok
-returns-in-Ok g c = simp length-map at (ap length c.in-Ok.ensures.cores)
+returns-in-Ok c = simp length-map at (ap length c.in-Ok.ensures.cores)

@@ -2,7 +2,7 @@ use Rattle.std.proofs.Common.{rules, refl, sym, ◌∙◌}
 use Rattle.tests_live.proofs.stepping.a_controller_finds_what_it_missed.Goals as goal
 
 pub planner_step-told-requires-sync-R : goal.planner_step-told-requires-sync-R
-planner_step-told-requires-sync-R g c κs within = (
+planner_step-told-requires-sync-R c κs within = (
   search rules,
   (
     (refl, tt),

@@ -9,7 +9,7 @@ use Rattle.live_plan.proofs.FindingLemmas.{found_of_next, stands_next}
 use Rattle.live_plan.proofs.made.Made.fill_from.Goals as goal
 
 pub found_next-requires-after_bounds : goal.found_next-requires-after_bounds
-found_next-requires-after_bounds g c κs within =
+found_next-requires-after_bounds c κs within =
     let inside = c.self.inside in
     let stands : HostAfter inside.host inside.edits.items inside.change c.args.standing.now =
     subst (λ (m : MadeView). HostAfter m.host m.edits m.change c.args.standing.now) (sym c.self.view_is) c.requires in
@@ -20,7 +20,7 @@ found_next-requires-after_bounds g c κs within =
     stands at
 
 pub invariant_of-self : goal.invariant_of-self
-invariant_of-self g c =
+invariant_of-self c =
     let inside = c.self.inside in
     let stands : HostAfter inside.host inside.edits.items inside.change c.args.standing.now =
     subst (λ (m : MadeView). HostAfter m.host m.edits m.change c.args.standing.now) (sym c.self.view_is) c.requires in
@@ -36,7 +36,7 @@ invariant_of-self g c =
     }
 
 pub returns-clause-stands : goal.returns-clause-stands
-returns-clause-stands g c = λ going.
+returns-clause-stands c = λ going.
     let inside = c.self.inside in
     let stands : HostAfter inside.host inside.edits.items inside.change c.args.standing.now =
     subst (λ (m : MadeView). HostAfter m.host m.edits m.change c.args.standing.now) (sym c.self.view_is) c.requires in

@@ -6,7 +6,7 @@ use Rattle.plan_book.proofs.NextState.{fits_taken, known_refused, known_taken}
 use Rattle.plan_book.proofs.book_so_far.BookSoFar.change.Goals as goal
 
 pub returns-in_ok-take-in-Ok-clause-applies : goal.returns-in_ok-take-in-Ok-clause-applies
-returns-in_ok-take-in-Ok-clause-applies g c =
+returns-in_ok-take-in-Ok-clause-applies c =
     let told = c.in_ok-take-in-Ok.ensures in
     let made : IsMadeOf c.in_ok-host.host (Ok c.in-Ok.plan) = rw c.in-Ok.is at c.in_ok-plan.ensures in
     inl (known_taken c.args.self.now c.take.new.self c.args.edits.now c.in-Ok.plan c.requires.some
@@ -14,17 +14,17 @@ returns-in_ok-take-in-Ok-clause-applies g c =
     (rw (told.host) made.0) told.plans told.runnable told.outcomes)
 
 pub returns-in_ok-take-in-Ok-clause-keeps_plans : goal.returns-in_ok-take-in-Ok-clause-keeps_plans
-returns-in_ok-take-in-Ok-clause-keeps_plans g c = inr (c.in-Ok.plan, c.in_ok-take-in-Ok.ensures.plans)
+returns-in_ok-take-in-Ok-clause-keeps_plans c = inr (c.in-Ok.plan, c.in_ok-take-in-Ok.ensures.plans)
 
 pub returns-in_ok-take-in-Ok-clause-fits : goal.returns-in_ok-take-in-Ok-clause-fits
-returns-in_ok-take-in-Ok-clause-fits g c _ =
+returns-in_ok-take-in-Ok-clause-fits c _ =
     let told = c.in_ok-take-in-Ok.ensures in
     let made : IsMadeOf c.in_ok-host.host (Ok c.in-Ok.plan) = rw c.in-Ok.is at c.in_ok-plan.ensures in
     fits_taken c.args.self.now c.take.new.self c.in-Ok.plan told.plans
     (rw told.host made.1)
 
 pub returns-in_ok-push-in-Err-clause-applies : goal.returns-in_ok-push-in-Err-clause-applies
-returns-in_ok-push-in-Err-clause-applies g c =
+returns-in_ok-push-in-Err-clause-applies c =
     let pushed : c.push.new.self.items ≡ c.args.self.now.outcomes.items ++ c.in-Err.outcome ∷ [] =
     grind (arith, common_steps) in
     let new : BookSoFar =

@@ -5,11 +5,11 @@ use Rattle.tableau_sim.proofs.StopsLemmas.{host_stopped, plan_stopped}
 use Rattle.tableau_sim.proofs.commands.plan.plan_of.Goals as goal
 
 pub returns-in-Err : goal.returns-in-Err
-returns-in-Err g c = host_stopped (Plans c.args.sections.now) _ _ (λ bad is. Plans.BadHost bad is)
+returns-in-Err c = host_stopped (Plans c.args.sections.now) _ _ (λ bad is. Plans.BadHost bad is)
     (rw c.part.ensures at c.in-Err.ensures.stop)
 
 pub returns-in-Ok-plan : goal.returns-in-Ok-plan
-returns-in-Ok-plan g c = (
+returns-in-Ok-plan c = (
   Plans.Planned c.in-Ok.host _ (rw c.part.ensures at c.in-Ok.ensures.ok) (record {
     planned = c.in-Ok-plan.ensures.ok;
     keeps = record {
@@ -27,7 +27,7 @@ returns-in-Ok-plan g c = (
 )
 
 pub returns-in-Err-plan : goal.returns-in-Err-plan
-returns-in-Err-plan g c = rw c.stop_of_plan.ensures
+returns-in-Err-plan c = rw c.stop_of_plan.ensures
     (plan_stopped (Plans c.args.sections.now) c.in-Ok.host c.in-Err-plan.fault
     (λ vcpu e. Plans.NoPeriod c.in-Ok.host vcpu (rw c.part.ensures at c.in-Ok.ensures.ok)
     (c.in-Err-plan.ensures.no_period vcpu (ap Err e)))

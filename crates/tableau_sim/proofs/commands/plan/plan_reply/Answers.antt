@@ -5,8 +5,8 @@ use Rattle.tableau_sim.proofs.ReplyLemmas.{made_of_sections, off_sections}
 use Rattle.tableau_sim.proofs.commands.plan.plan_reply.Goals as goal
 
 pub returns-in-Ok : goal.returns-in-Ok
-returns-in-Ok g c = made_of_sections 1 Plans _ _ c.in-Ok.ensures.wanted
+returns-in-Ok c = made_of_sections 1 Plans _ _ c.in-Ok.ensures.wanted
     (subst (λ s. Makes (Plans s) c.plan_of.result) c.in-Ok.ensures.ok c.plan_of.ensures)
 
 pub returns-in-Err : goal.returns-in-Err
-returns-in-Err g c = off_sections 1 Plans _ _ c.in-Err.ensures.off
+returns-in-Err c = off_sections 1 Plans _ _ c.in-Err.ensures.off

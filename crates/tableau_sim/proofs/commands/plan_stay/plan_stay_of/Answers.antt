@@ -5,17 +5,17 @@ use Rattle.tableau_sim.proofs.StopsLemmas.{host_stopped, plan_stopped}
 use Rattle.tableau_sim.proofs.commands.plan_stay.plan_stay_of.Goals as goal
 
 pub returns-in-Err : goal.returns-in-Err
-returns-in-Err g c = host_stopped (PlansStaying c.args.sections.now) _ _ (λ bad is. PlansStaying.BadHost bad is)
+returns-in-Err c = host_stopped (PlansStaying c.args.sections.now) _ _ (λ bad is. PlansStaying.BadHost bad is)
     (rw c.part.ensures at c.in-Err.ensures.stop)
 
 pub returns-in-Err-BadLine : goal.returns-in-Err-BadLine
-returns-in-Err-BadLine g c =
+returns-in-Err-BadLine c =
     rw (c.stopped.ensures, c.in-Err-BadLine.field-0-is)
     (PlansStaying.BadLine c.in-Ok.host c.in-Err-BadLine.line (rw c.part.ensures at c.in-Ok.ensures.ok)
     (rw c.part-2.ensures at (c.in-Err-BadLine.ensures.bad_line c.in-Err-BadLine.line (ap Err c.in-Err-BadLine.field-0-is))))
 
 pub returns-in-Ok-plan_staying : goal.returns-in-Ok-plan_staying
-returns-in-Ok-plan_staying g c =
+returns-in-Ok-plan_staying c =
     let old : HasOldHomes c.args.sections.now c.in-Ok.host c.in-Ok-read_old_homes.homes.items = record {
       is_host = rw c.part.ensures at c.in-Ok.ensures.ok;
       old = rw c.part-2.ensures at c.in-Ok-read_old_homes.ensures.ok;
@@ -37,7 +37,7 @@ returns-in-Ok-plan_staying g c =
     )
 
 pub returns : goal.returns
-returns g c =
+returns c =
     let old : HasOldHomes c.args.sections.now c.in-Ok.host c.in-Ok-read_old_homes.homes.items = record {
       is_host = rw c.part.ensures at c.in-Ok.ensures.ok;
       old = rw c.part-2.ensures at c.in-Ok-read_old_homes.ensures.ok;

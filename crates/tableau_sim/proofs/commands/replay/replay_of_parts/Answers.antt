@@ -10,7 +10,7 @@ use Rattle.tableau_sim.proofs.StopsLemmas.{plan_stopped}
 use Rattle.tableau_sim.proofs.commands.replay.replay_of_parts.Goals as goal
 
 pub returns-in-Err : goal.returns-in-Err
-returns-in-Err g c = λ sections read.
+returns-in-Err c = λ sections read.
     rw c.stop_of_plan.ensures
     (plan_stopped (Replays c.args.rounds sections) c.args.host c.in-Err.fault
     (λ vcpu e. Replays.NoPeriod _ vcpu read (c.in-Err.ensures.no_period vcpu (ap Err e)))
@@ -18,13 +18,13 @@ returns-in-Err g c = λ sections read.
     (c.in-Err.ensures.no_room vcpu rest over (ap Err e))))
 
 pub replay-requires-clause-names : goal.replay-requires-clause-names
-replay-requires-clause-names g c = λ k taken at.
+replay-requires-clause-names c = λ k taken at.
     each_names_core c.course.result.now c.args.host.cores c.args.list.steps
     (ap (λ (course : CourseView). course.cores) c.course.ensures ∙ c.in-Ok.ensures.ok.course.cores)
     c.requires.names k taken (rw c.items.ensures at at)
 
 pub returns-in-Ok-replay : goal.returns-in-Ok-replay
-returns-in-Ok-replay g c = λ sections read.
+returns-in-Ok-replay c = λ sections read.
     let of = c.in-Ok.ensures.ok.course in
     let world = c.in-Ok-replay.world in
     let kept = rw c.course.ensures at c.in-Ok-replay.ensures.kept in
@@ -44,7 +44,7 @@ returns-in-Ok-replay g c = λ sections read.
     )
 
 pub bounds-items-place : goal.bounds-items-place
-bounds-items-place g c =
+bounds-items-place c =
     let refused : IsRefused c.course.result.now c.args.rounds c.items.result.now c.in-Err-Refused.place
     c.in-Err-Refused.answer =
     subst (IsFaultOf c.course.result.now c.args.rounds c.items.result.now) c.in-Err-Refused.field-0-is
@@ -55,7 +55,7 @@ bounds-items-place g c =
     refused
 
 pub returns-in-Err-Refused : goal.returns-in-Err-Refused
-returns-in-Err-Refused g c = λ sections read.
+returns-in-Err-Refused c = λ sections read.
     let given : IsRefused c.course.result.now c.args.rounds c.items.result.now c.in-Err-Refused.place
     c.in-Err-Refused.answer =
     subst (IsFaultOf c.course.result.now c.args.rounds c.items.result.now) c.in-Err-Refused.field-0-is

@@ -6,12 +6,12 @@ use Rattle.tableau_sim.proofs.ReplyLemmas.{made_of_sections, off_sections}
 use Rattle.tableau_sim.proofs.commands.replay.replay_reply.Goals as goal
 
 pub replay_of-requires-clause-short : goal.replay_of-requires-clause-short
-replay_of-requires-clause-short g c _ _ i =
+replay_of-requires-clause-short c _ _ i =
     rw c.in-Ok.ensures.ok (omega (arith, section_size c.args.input.now i, c.requires.within))
 
 pub returns-in-Ok : goal.returns-in-Ok
-returns-in-Ok g c = made_of_sections 3 (Replays c.args.rounds) _ _ c.in-Ok.ensures.wanted
+returns-in-Ok c = made_of_sections 3 (Replays c.args.rounds) _ _ c.in-Ok.ensures.wanted
     (subst (λ s. Makes (Replays c.args.rounds s) c.replay_of.result) c.in-Ok.ensures.ok c.replay_of.ensures)
 
 pub returns-in-Err : goal.returns-in-Err
-returns-in-Err g c = off_sections 3 (Replays c.args.rounds) _ _ c.in-Err.ensures.off
+returns-in-Err c = off_sections 3 (Replays c.args.rounds) _ _ c.in-Err.ensures.off

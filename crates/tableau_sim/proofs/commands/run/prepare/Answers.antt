@@ -8,7 +8,7 @@ use Rattle.tableau_sim.proofs.StopsLemmas.{plan_stopped}
 use Rattle.tableau_sim.proofs.commands.run.prepare.Goals as goal
 
 pub returns-in-Err-clause-stop : goal.returns-in-Err-clause-stop
-returns-in-Err-clause-stop g c = λ view sections script.
+returns-in-Err-clause-stop c = λ view sections script.
     subst (λ (why : Stop). Makes (Runs c.args.rounds c.args.mode view sections) (Err why)) (sym c.stop_of_plan.ensures)
     (plan_stopped (Runs c.args.rounds c.args.mode view sections) c.args.host c.in-Err.fault
     (λ vcpu e. Runs.NoPeriod c.args.host c.args.script vcpu script (c.in-Err.ensures.no_period vcpu (ap Err e)))
@@ -16,7 +16,7 @@ returns-in-Err-clause-stop g c = λ view sections script.
     (c.in-Err.ensures.no_room vcpu rest over (ap Err e))))
 
 pub returns-clause-prepared : goal.returns-clause-prepared
-returns-clause-prepared g c = record {
+returns-clause-prepared c = record {
   host_is = refl;
   script_is = refl;
   book = c.in-Ok.ensures.ok;
