@@ -6,8 +6,8 @@ use Rattle.live_plan.proofs.ChangesLemmas.{edits_of_host}
 use Rattle.live_plan.proofs.FindingLemmas.{found_of_next}
 use Rattle.live_plan.proofs.finding.found_after.Goals as goal
 
-pub found_next-requires-after_bounds : goal.found_next-requires-after_bounds
-found_next-requires-after_bounds c κs within =
+pub found_next-requires : goal.found_next-requires
+found_next-requires c =
     let last = length c.args.changes.now - 1 in
     let at : slice_get c.args.changes.now last ≡ Some c.items.result.now =
     subst (λ (es : List Edit). slice_get c.args.changes.now last ≡ Some es) (sym c.items.ensures)

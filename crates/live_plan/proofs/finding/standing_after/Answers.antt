@@ -7,8 +7,8 @@ use Rattle.live_plan.proofs.ChangesLemmas.{edits_of_host}
 use Rattle.live_plan.proofs.FindingLemmas.{made_after}
 use Rattle.live_plan.proofs.finding.standing_after.Goals as goal
 
-pub planned_next-requires-after_bounds : goal.planned_next-requires-after_bounds
-planned_next-requires-after_bounds c κs within =
+pub planned_next-requires : goal.planned_next-requires
+planned_next-requires c =
     let lt = c.loop-change-test.true in
     let at : slice_get c.args.changes.now c.loop-change.change ≡ Some c.items.result.now =
     subst (λ (es : List Edit). slice_get c.args.changes.now c.loop-change.change ≡ Some es) (sym c.items.ensures)

@@ -6,8 +6,8 @@ use Rattle.live_plan.specs.Planners.{IsPlannerOf, PlannerView, PlansNext, planne
 use Rattle.live_plan.proofs.PlannersLemmas.{count_before, for_same, next_made, planned_next, stands_for, stands_on}
 use Rattle.live_plan.proofs.planner.planner_step.Goals as goal
 
-pub fill_from-requires-after_bounds : goal.fill_from-requires-after_bounds
-fill_from-requires-after_bounds g c κs within =
+pub fill_from-requires : goal.fill_from-requires
+fill_from-requires g c =
     let b = c.args.book.now in
     let inside = c.planner.inside in
     let of : IsPlannerOf b (planner_view (map (λ made. made.value) inside.left.items) inside.standing inside.next inside.stopped) =

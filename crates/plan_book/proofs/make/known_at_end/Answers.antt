@@ -11,7 +11,7 @@ pub loop-event-init : goal.loop-event-init
 loop-event-init c = record { book = c.in_ok-so_far.ensures; made = c.requires.made }
 
 pub apply-requires-clause-within : goal.apply-requires-clause-within
-apply-requires-clause-within c _ _ =
+apply-requires-clause-within c =
     let same = c.events-event-items.ensures.same in
     next_within c.args.host.now c.args.script.now c.loop-event.event-index c.event-item.result
     c.loop-event.so_far _ _ c.loop-event.invariant.book c.requires.within
@@ -20,7 +20,7 @@ apply-requires-clause-within c _ _ =
     ≡ get_or es c.loop-event.event-index c.event-item.result) same c.event-item.is)
 
 pub apply-requires-clause-tasks : goal.apply-requires-clause-tasks
-apply-requires-clause-tasks c _ _ =
+apply-requires-clause-tasks c =
     (known_planned c.args.host.now c.args.script.now c.loop-event.event-index (known_of c.loop-event.so_far)
     c.loop-event.invariant.book.known).layout.is_start.tasks_are
 
@@ -52,7 +52,7 @@ loop-event-preserved c =
     }
 
 pub apply-requires-clause-made : goal.apply-requires-clause-made
-apply-requires-clause-made c _ _ =
+apply-requires-clause-made c =
     let same = c.events-event-items.ensures.same in
     next_made c.args.host.now c.args.script.now c.loop-event.event-index c.event-item.result c.loop-event.so_far
     c.loop-event.made c.loop-event.invariant.book.known

@@ -9,7 +9,7 @@ use Rattle.live_plan.proofs.OutcomesLemmas.{made_of_all, planned_fits}
 use Rattle.live_plan.proofs.book.LiveBook.to_book.Goals as goal
 
 pub make_book_with-requires-clause-first : goal.make_book_with-requires-clause-first
-make_book_with-requires-clause-first c κs within =
+make_book_with-requires-clause-first c =
     let host = c.args.host.now in
     let b : LiveView = c.args.self.now in
     let plan = plan_view c.in_ok-plan.plan in
@@ -20,6 +20,6 @@ make_book_with-requires-clause-first c κs within =
     (planned, planned_fits host plan planned (ap (λ (p : PlanView). length p.rows) is ∙ (kept.rows ∙ ap (λ (h : Host). h.cores) c.requires.live.host_is)))
 
 pub make_book_with-requires-clause-made : goal.make_book_with-requires-clause-made
-make_book_with-requires-clause-made c κs within =
+make_book_with-requires-clause-made c =
     subst (AreMadeOf c.args.host.now c.args.script.now) (sym c.deref_mut.ensures.value)
     (made_of_all c.args.host.now c.args.script.now _ c.requires.live c.in_ok-made.made.items c.in_ok-made.ensures)

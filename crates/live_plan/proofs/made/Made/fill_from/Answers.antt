@@ -8,8 +8,8 @@ use Rattle.live_plan.proofs.ChangesLemmas.{edits_of_host}
 use Rattle.live_plan.proofs.FindingLemmas.{found_of_next, stands_next}
 use Rattle.live_plan.proofs.made.Made.fill_from.Goals as goal
 
-pub found_next-requires-after_bounds : goal.found_next-requires-after_bounds
-found_next-requires-after_bounds c κs within =
+pub found_next-requires : goal.found_next-requires
+found_next-requires c =
     let inside = c.self.inside in
     let stands : HostAfter inside.host inside.edits.items inside.change c.args.standing.now =
     subst (λ (m : MadeView). HostAfter m.host m.edits m.change c.args.standing.now) (sym c.self.view_is) c.requires in

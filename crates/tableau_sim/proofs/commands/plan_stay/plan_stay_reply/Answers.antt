@@ -6,7 +6,7 @@ use Rattle.tableau_sim.proofs.ReplyLemmas.{made_of_sections, off_sections}
 use Rattle.tableau_sim.proofs.commands.plan_stay.plan_stay_reply.Goals as goal
 
 pub plan_stay_of-requires-clause-short : goal.plan_stay_of-requires-clause-short
-plan_stay_of-requires-clause-short c _ _ i =
+plan_stay_of-requires-clause-short c i =
     rw c.in-Ok.ensures.ok (omega (arith, section_size c.args.input.now i, c.requires))
 
 pub returns-in-Ok : goal.returns-in-Ok

@@ -6,7 +6,7 @@ use Rattle.tableau_sim.proofs.ReplyLemmas.{made_of_sections, off_sections}
 use Rattle.tableau_sim.proofs.commands.replay.replay_reply.Goals as goal
 
 pub replay_of-requires-clause-short : goal.replay_of-requires-clause-short
-replay_of-requires-clause-short c _ _ i =
+replay_of-requires-clause-short c i =
     rw c.in-Ok.ensures.ok (omega (arith, section_size c.args.input.now i, c.requires.within))
 
 pub returns-in-Ok : goal.returns-in-Ok
