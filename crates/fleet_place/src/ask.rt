@@ -62,8 +62,8 @@ fn has_plan(alloc: Global, host: &Host) -> Result<bool, NoMemory>
     }
 }
 
-// The sizes of VMs.
-pub(crate) fn sizes_of<'a>(alloc: Global, vms: &[Vm<'a>]) -> Result<Vec<Size<'a>>, NoMemory>
+/// The sizes of VMs, in their order.
+pub fn sizes_of<'a>(alloc: Global, vms: &[Vm<'a>]) -> Result<Vec<Size<'a>>, NoMemory>
     ensures { IfOk result (λ sizes. sizes.items ≡ sizes_in vms.now) }
 {
     let mut sizes = Vec::with_capacity(alloc, vms.len())?;

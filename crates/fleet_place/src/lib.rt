@@ -17,6 +17,7 @@ mod stay;
 mod vm;
 mod write;
 
+pub use ask::sizes_of;
 pub use fault::PlaceFault;
 pub use fleet::{Placing, place};
 pub use fleet_host::FleetHost;

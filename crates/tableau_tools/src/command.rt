@@ -179,7 +179,9 @@ fn map_arg<'a>(alloc: Global) -> Arg<'a> {
 // The words of `table`.
 fn table_command<'a>(alloc: Global) -> Result<Command<'a>, AllocError> {
     Command::new(alloc, "table")
-        .about("Writes the shares, waits and loads of a plan, beside what its host asks for")
+        .about(
+            "Writes the shares, waits and loads of a plan, beside what its host asks for; with --json or --csv also the report of a run",
+        )
         .arg(rows_arg(alloc))?
         .arg(json_arg(alloc))?
         .arg(csv_arg(alloc))?

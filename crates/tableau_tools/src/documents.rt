@@ -1,17 +1,17 @@
 //! The documents of the hosts of a fleet.
-ghost use Rattle.std.specs.Prelude.{◌≡◌, ◌≤◌, All, IfOk, IsSome};
+ghost use Rattle.std.specs.Prelude.{◌≤◌, All, IfOk, IsSome};
 ghost use Rattle.tab_core.specs.declared.TheConstants.{MAX_TICK_NS, MIN_TICK_NS};
 ghost use Rattle.sizes_doc.specs.SizedHost.{IsHostOfSizes};
 ghost use Rattle.fleet_place.specs.Held.{sizes_in};
 
 use crate::fault::Fault;
 use crate::output::{finish, output_of};
-use fleet_place::{FleetHost, Vm};
+use fleet_place::{FleetHost, sizes_of};
 use host_gen::write_host;
 use section_join::write_separator;
-use sizes_doc::{Size, host_of_sizes};
+use sizes_doc::host_of_sizes;
 use std::alloc::Global;
-use tab_core::{Host, MAX_TICK_NS, MIN_TICK_NS, NoMemory};
+use tab_core::{Host, MAX_TICK_NS, MIN_TICK_NS};
 
 // What is written of a host of a fleet: a host whose vCPUs are all admitted.
 #[derive(Drop)]
@@ -67,15 +67,4 @@ fn document_of(alloc: Global, tick_ns: u32, host: &FleetHost<'_>) -> Result<Docu
         Ok(host) => Ok(Document { host }),
         Err(fault) => Err(Fault::from(fault)),
     }
-}
-
-// The sizes of VMs.
-fn sizes_of<'a>(alloc: Global, vms: &[Vm<'a>]) -> Result<Vec<Size<'a>>, NoMemory>
-    ensures { IfOk result (λ sizes. sizes.items ≡ sizes_in vms.now) }
-{
-    let mut sizes = Vec::with_capacity(alloc, vms.len())?;
-    for vm in vms {
-        sizes.push(vm.size)?;
-    }
-    Ok(sizes)
 }

@@ -23,6 +23,12 @@ pub(crate) enum Fault {
         line: u32,
         text: String,
     },
+    #[error("{place}line {line} isn't of the report of a run, or may not stand there: '{text}'")]
+    BadReportLine {
+        place: String,
+        line: u32,
+        text: String,
+    },
     #[error("{place}the text ends before line {line}, and isn't whole")]
     EndsEarly {
         place: String,
@@ -115,6 +121,11 @@ pub(crate) enum Fault {
     },
     #[error("{place}{count} sections, and not a plan, or a host and its plan, with a line %% between them")]
     BadSections {
+        place: String,
+        count: u32,
+    },
+    #[error("{place}{count} sections, and not a report, a host and a report, or a host, a script and a report, with a line %% between each two")]
+    NoRun {
         place: String,
         count: u32,
     },

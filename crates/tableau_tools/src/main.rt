@@ -2,7 +2,8 @@
 //!
 //! Each command has a file. What it reads is a text, and what it writes is a definition's text of the
 //! view that was read: `view_doc` has the reader, `view_table`, `view_chart`, `view_text`, `view_page` and `view_export` the
-//! texts. Of a trace of another host `host_judge` and `view_trace` have the readers, and `view_judge` the texts.
+//! texts. Of a trace of another host `host_judge` and `view_trace` have the readers, and `view_judge` the texts; of the
+//! report of a run `view_report` has both.
 #![tactic(auto)]
 
 mod chart;
@@ -26,6 +27,7 @@ mod output;
 mod place;
 mod plan;
 mod planned;
+mod ran;
 mod report;
 mod sections;
 mod shown;

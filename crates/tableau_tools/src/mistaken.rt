@@ -10,6 +10,8 @@ pub(crate) enum Wanted {
     Plan,
     /// A plan, a replay or a trace.
     View,
+    /// The report of a run.
+    Report,
 }
 
 /// The fault of a text that isn't what is wanted, by its first bad line. A text of another kind, given by mistake, is said
@@ -41,6 +43,7 @@ pub(crate) fn bad_line(
         Ok(text) => match wanted {
             Wanted::Plan => Fault::BadPlanLine { place, line, text },
             Wanted::View => Fault::BadLine { place, line, text },
+            Wanted::Report => Fault::BadReportLine { place, line, text },
         },
         Err(_) => Fault::NoMemory,
     }
@@ -65,13 +68,18 @@ fn other_kind(first: &[u8], wanted: Wanted) -> Option<&'static str> {
     if first.starts_with(b"{") || first.starts_with(b"[") {
         return Some("it is JSON, which is written here and not read");
     }
-    if first.starts_with(b"run ") {
-        return Some(match wanted {
-            Wanted::Plan => "it is the report of a run, and no plan",
-            Wanted::View => "it is a report without its trace: tableau run ROUNDS trace writes one",
-        });
+    if !first.starts_with(b"run ") {
+        return None;
     }
-    None
+    match wanted {
+        Wanted::Plan => Some(
+            "it is the report of a run, and no plan: table --json and table --csv write it",
+        ),
+        Wanted::View => {
+            Some("it is a report without its trace: tableau run ROUNDS trace writes one")
+        }
+        Wanted::Report => None,
+    }
 }
 
 // Whether the line gives this key of a host document a value.

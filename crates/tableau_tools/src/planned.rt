@@ -5,6 +5,7 @@ use crate::fault::Fault;
 use crate::input::{Input, input_of};
 use crate::plan::{host_of, plan_of, view_in};
 use clap::ArgMatches;
+use std::alloc::Global;
 use std::io::IsTerminal;
 use tab_core::{Host, TICK_NS};
 use tab_words::cut_sections;
@@ -34,11 +35,16 @@ impl Planned {
 
 /// The plan of the file of this path, or of standard input where there is none: a plan alone, or a host and its plan.
 pub(crate) fn planned_of(rt: &HostRuntime, path: Option<&str>) -> Result<Planned, Fault> {
-    let Input { place, bytes } = input_of(rt, path)?;
-    let sections = cut_sections(&bytes);
+    let input = input_of(rt, path)?;
+    planned_in(rt.alloc(), &input)
+}
+
+/// The plan of a text: a plan alone, or a host and its plan.
+pub(crate) fn planned_in(alloc: Global, input: &Input) -> Result<Planned, Fault> {
+    let sections = cut_sections(&input.bytes);
     if sections.count() == 2 {
-        let host = host_of(rt.alloc(), &place, sections.part(0))?;
-        let view = plan_of(rt.alloc(), &place, sections.part(1))?;
+        let host = host_of(alloc, &input.place, sections.part(0))?;
+        let view = plan_of(alloc, &input.place, sections.part(1))?;
         return Ok(Planned {
             host: Some(host),
             view,
@@ -46,11 +52,11 @@ pub(crate) fn planned_of(rt: &HostRuntime, path: Option<&str>) -> Result<Planned
     }
     if sections.count() != 1 {
         return Err(Fault::BadSections {
-            place,
+            place: String::from_str(alloc, &input.place)?,
             count: sections.count(),
         });
     }
-    let view = plan_of(rt.alloc(), &place, sections.part(0))?;
+    let view = plan_of(alloc, &input.place, sections.part(0))?;
     Ok(Planned { host: None, view })
 }
 

@@ -3,8 +3,10 @@ ghost use Rattle.tab_core.specs.declared.TheConstants.{MAX_CORES, MAX_VCPUS};
 
 use crate::fault::Fault;
 use crate::form::{Form, form_of};
+use crate::input::input_of;
 use crate::output::{finish, output_of};
-use crate::planned::{Planned, planned_of, tick_of};
+use crate::planned::{Planned, planned_in, tick_of};
+use crate::ran::{is_run, put_run};
 use crate::shown::shown;
 use clap::ArgMatches;
 use std::alloc::AllocError;
@@ -16,10 +18,15 @@ use view_table::{figures_of, write_table, write_table_csv, write_table_json, wri
 // A share below this, in parts per million, is rarely what was meant.
 const SMALL_PPM: u64 = 1000;
 
-/// Does `table`: it reads a plan, or a host and its plan, and writes their tables.
+/// Does `table`: it reads a plan, or a host and its plan, and writes their tables. As JSON or comma-separated values it
+/// also writes the report of a run.
 pub(crate) fn table(rt: &HostRuntime, matches: &ArgMatches<'_>) -> Result<(), Fault> {
     let form = form_of(matches)?;
-    let Planned { host, view } = planned_of(rt, matches.get_str("FILE"))?;
+    let input = input_of(rt, matches.get_str("FILE"))?;
+    if matches!(form, Form::Json | Form::Csv) && is_run(&input.bytes) {
+        return put_run(rt, matches, form, &input);
+    }
+    let Planned { host, view } = planned_in(rt.alloc(), &input)?;
     match host {
         Some(host) => put_tables(rt, form, Some(host.vcpus.items()), &view, host.tick_ns)?,
         None => put_tables(rt, form, None, &view, tick_of(rt, matches, None))?,

@@ -1,0 +1,2 @@
+-- What the reader of a report keeps on its way, private to this crate.
+pub mod NoLines
