@@ -23,7 +23,7 @@ join-maker-requires-after_bounds g c κs within =
     let few : b.outline.cores ≤ 32 = omega (arith, c.lag-lag.ensures.kept.few_cores, ap (λ (o : OutlineView). o.cores) c.outline.ensures) in
     let held = held_crew b x v few is (subst (λ (k : LiveCrewView). LiveCrewAgrees b k v) (sym c.crew.view_is) c.requires.agree)
     (subst (λ (k : LiveCrewView). HoldsLiveCrew k v) (sym c.crew.view_is) c.requires.holds) in (
-      ((search rules, is.maker), (search rules, search rules)),
+      ((search rules, is.maker), search rules),
       ((search rules, search rules, c.requires.board, held), (search rules, search rules)),
     )
 
