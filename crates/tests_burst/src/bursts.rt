@@ -1,14 +1,15 @@
 //! Many bursts in runs of generated hosts and scripts.
-use crate::hosts::{Case, Row, Scene, case_of, scene_of};
 use crate::judging::{Judged, Promise, judge};
-use crate::running::{Shown, Stumbling, run_scene};
-use crate::settings::{Setting, bit, setting_of};
+use crate::running::{Shown, run_scene};
+use crate::scenes::{Row, Scene, case_of, scene_of};
+use crate::settings::{Setting, setting_of};
 use core_workers::{FreeGate, Gate};
 use std::alloc::Global;
 use std::process::Abort;
 use std::test::Fail;
 use std::thread::Threads;
 use tab_core::ROUND;
+use tests_samples::{Case, Stumbling, bit};
 
 const ROWS: [Row; 9] = [
     (1, 3, 1001, 1000, 1000, 3, 32),
@@ -80,7 +81,7 @@ fn try_row<R: Threads + Sync + Abort>(
     row: &Row,
     met: &mut Met,
 ) -> Result<(), Fail> {
-    let case = case_of(seed, *row).ok_or("numbers out of bounds")?;
+    let case = case_of(seed, row);
     let scene = scene_of(rt, alloc, &case)?;
     let events = scene.script.events();
     let setting = setting_of(
@@ -91,8 +92,7 @@ fn try_row<R: Threads + Sync + Abort>(
         scene.book.course(),
     )?;
     try_run(rt, alloc, &case, &scene, &setting, &FreeGate, met)?;
-    let pattern = seed.wrapping_add(1).wrapping_mul(0x9E37_79B9_7F4A_7C15);
-    let gate = Stumbling { pattern };
+    let gate = Stumbling::of(seed);
     try_run(rt, alloc, &case, &scene, &setting, &gate, met)
 }
 

@@ -1,10 +1,11 @@
 //! What is reported of bursts, judged tick by tick.
 use crate::running::Shown;
-use crate::settings::{Setting, bit, bit_of};
+use crate::settings::{Setting, bit_of};
 use burst_bound::BurstAnswer;
 use script_doc::{Act, Event};
 use std::alloc::Global;
 use tab_core::{NoMemory, Periodic, ROUND, Stint, VcpuNo};
+use tests_samples::bit;
 
 // What is broken.
 #[derive(Clone, Copy, Debug, PartialEq, Eq, Drop)]

@@ -6,10 +6,10 @@
 #[cfg(test)]
 mod bursts;
 #[cfg(test)]
-mod hosts;
-#[cfg(test)]
 mod judging;
 #[cfg(test)]
 mod running;
+#[cfg(test)]
+mod scenes;
 #[cfg(test)]
 mod settings;

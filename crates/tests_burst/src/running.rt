@@ -4,7 +4,7 @@ ghost use Rattle.tab_core.specs.declared.TheConstants.{MAX_ROUNDS};
 ghost use Rattle.table_form.specs.Running.State.{State};
 ghost use Rattle.burst_bound.specs.KeptRuns.{IsKeptRun};
 
-use crate::hosts::Scene;
+use crate::scenes::Scene;
 use burst_bound::{BurstAnswer, BurstReport, bound_of};
 use core_workers::{Crew, Gate};
 use round_words::RoundBoard;
@@ -13,7 +13,7 @@ use run_limit::stint_bound;
 use script_doc::{Act, Script};
 use std::alloc::Global;
 use std::test::Fail;
-use std::thread::{Threads, yield_now};
+use std::thread::Threads;
 use tab_core::{CoreNo, NoMemory, Stint};
 use tab_words::RunMode;
 use table_form::Course;
@@ -96,20 +96,5 @@ pub(crate) fn run_scene<R: Threads + Sync, G: Gate>(
             Ok(shown_of(alloc, ran.crew(), report.answers(), alone)?)
         }
         Err(_) => Err(Fail::from("no run")),
-    }
-}
-
-// Lets other threads go first at some steps, which the pattern picks.
-#[derive(Drop)]
-pub(crate) struct Stumbling {
-    pub(crate) pattern: u64,
-}
-
-impl Gate for Stumbling {
-    fn pass(&self, actor: u32, step: u64) {
-        let place = step.wrapping_mul(7).wrapping_add(u64::from(actor)) % 64;
-        if (self.pattern >> place) & 1 == 1 {
-            yield_now();
-        }
     }
 }

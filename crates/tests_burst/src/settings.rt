@@ -5,11 +5,7 @@ use script_doc::{Act, Event};
 use std::alloc::Global;
 use tab_core::{Host, NoMemory, Periodic, ROUND, VcpuNo};
 use table_form::{CoreTable, Course};
-
-// The bit of a vCPU, which one from 64 on has none of.
-pub(crate) fn bit(vcpu: u32) -> u64 {
-    if vcpu < 64 { 1 << vcpu } else { 0 }
-}
+use tests_samples::{bit, capped_of};
 
 // The bit of a vCPU, which nobody has none of.
 pub(crate) fn bit_of(vcpu: Option<VcpuNo>) -> u64 {
@@ -104,18 +100,6 @@ fn owners_of(row: &CoreTable) -> u64 {
         own |= bit_of(segment.owner.vcpu());
     }
     own
-}
-
-fn capped_of(host: &Host) -> u64 {
-    let mut capped = 0;
-    let mut own: u64 = 1;
-    for vcpu in host.vcpus.items() {
-        if vcpu.capped {
-            capped |= own;
-        }
-        own = own.wrapping_mul(2);
-    }
-    capped
 }
 
 fn runnable_at_first(host: &Host) -> u64 {

@@ -2,7 +2,7 @@
 ghost use Rattle.std.specs.Prelude.{◌≡◌, IfOk, length};
 
 use crate::judging::{Broken, hold, is_same_plan, judge_account, judge_rounds};
-use crate::scenes::{Row, Scene, case_of, scene_of};
+use crate::scenes::{Row, Scene, scene_of};
 use core_workers::FreeGate;
 use live_plan::{CellShelf, Found, LiveBook, LiveCrew, Shelf, run_live};
 use plan_book::Outcome;
@@ -51,8 +51,7 @@ fn try_row<R: Threads + Wait + Sync>(
     row: &Row,
     met: &mut Met,
 ) -> Result<(), Fail> {
-    let case = case_of(seed, *row).ok_or("numbers out of bounds")?;
-    let scene = scene_of(rt, alloc, &case)?;
+    let scene = scene_of(rt, alloc, seed, row)?;
     note(met, &scene);
     try_run(rt, alloc, &scene, met)
 }

@@ -1,8 +1,9 @@
 //! The rules of running, as plain tests of what a run shows.
-use crate::pictures::{Look, NOBODY, Picture, Setting, bit, number_of};
+use crate::pictures::{Look, NOBODY, Picture, Setting, number_of};
 use crate::running::Shown;
 use dispatch_core::CoreAccount;
 use tab_core::{Periodic, ROUND, Stint};
+use tests_samples::bit;
 
 // What is broken.
 #[derive(Clone, Copy, Debug, PartialEq, Eq, Drop)]

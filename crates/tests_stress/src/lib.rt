@@ -14,7 +14,7 @@ mod replaying;
 #[cfg(test)]
 mod running;
 #[cfg(test)]
-mod scripts;
+mod scenes;
 #[cfg(test)]
 mod step_log;
 #[cfg(test)]

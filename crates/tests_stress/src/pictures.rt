@@ -5,14 +5,10 @@ ghost use Rattle.std.specs.Prelude.{◌≤◌, length};
 use std::alloc::Global;
 use tab_core::{CoreNo, NoMemory, Periodic, ROUND, VcpuNo};
 use table_form::{CoreTable, Course, Plan};
+use tests_samples::bit;
 
-// stands for the vCPU of a cell that has none
+// stands for the vCPU of a cell that has none, and has no bit
 pub(crate) const NOBODY: u32 = 64;
-
-// The bit of a vCPU, which nobody has none of.
-pub(crate) fn bit(vcpu: u32) -> u64 {
-    if vcpu < 64 { 1 << vcpu } else { 0 }
-}
 
 // By core the vCPU of each of its cells, and who is at home there; and the tasks by vCPU.
 #[derive(Drop)]

@@ -7,7 +7,7 @@ use dispatch_core::CoreAccount;
 use round_words::RoundBoard;
 use std::alloc::Global;
 use std::test::Fail;
-use std::thread::{Threads, yield_now};
+use std::thread::Threads;
 use tab_core::{CoreNo, NoMemory, ROUND, Stint};
 use table_form::Course;
 
@@ -67,19 +67,4 @@ pub(crate) fn run_course<R: Threads + Sync, G: Gate>(
         drive(&board, &mut seat, &mut crew, gate);
     }
     Ok(shown_of(alloc, &crew)?)
-}
-
-// Lets other threads go first at some steps, which the pattern picks.
-#[derive(Drop)]
-pub(crate) struct Stumbling {
-    pub(crate) pattern: u64,
-}
-
-impl Gate for Stumbling {
-    fn pass(&self, actor: u32, step: u64) {
-        let place = step.wrapping_mul(7).wrapping_add(u64::from(actor)) % 64;
-        if (self.pattern >> place) & 1 == 1 {
-            yield_now();
-        }
-    }
 }

@@ -1,12 +1,10 @@
 //! Many short runs of generated hosts and scripts, by threads and by turns in one thread.
-ghost use Rattle.table_form.specs.Running.Courses.{FitsRounds};
-
 use crate::judging::judge;
 use crate::ordering::order_of;
-use crate::pictures::{Setting, bit, setting_of};
+use crate::pictures::Setting;
 use crate::replaying::{is_same, is_won_once};
-use crate::running::{Shown, Stumbling, run_course};
-use crate::scripts::{Case, Row, book_of, case_of};
+use crate::running::{Shown, run_course};
+use crate::scenes::{Row, Scene, scene_of};
 use core_workers::{FreeGate, Gate};
 use plan_book::Outcome;
 use std::alloc::Global;
@@ -15,7 +13,7 @@ use std::test::Fail;
 use std::thread::Threads;
 use step_machine::replay;
 use tab_core::{ROUND, Stint};
-use table_form::Course;
+use tests_samples::{Stumbling, bit};
 
 // Hosts that are run by threads twice, and in one thread.
 const TWICE: [Row; 18] = [
@@ -66,17 +64,19 @@ struct Met {
     capped: u32,
 }
 
+const NOTHING: Met = Met {
+    splits: 0,
+    planned: 0,
+    unplanned: 0,
+    switches: 0,
+    shared: 0,
+    idle: 0,
+    capped: 0,
+};
+
 #[test]
 fn short_runs_follow_the_rules(rt: HostRuntime) -> Result<(), Fail> {
-    let mut met = Met {
-        splits: 0,
-        planned: 0,
-        unplanned: 0,
-        switches: 0,
-        shared: 0,
-        idle: 0,
-        capped: 0,
-    };
+    let mut met = NOTHING;
     for (seed, row) in TWICE.iter().enumerate() {
         try_row(&rt, rt.alloc(), seed as u64, row, 2, &mut met)?;
     }
@@ -106,35 +106,27 @@ fn try_row<R: Threads + Sync + Abort>(
     by_threads: u32,
     met: &mut Met,
 ) -> Result<(), Fail> {
-    let case = case_of(seed, *row).ok_or("numbers out of bounds")?;
-    let book = book_of(rt, alloc, &case)?;
-    let course = book.course();
-    let setting = setting_of(alloc, course, case.rounds, case.capped())?;
-    note_plans(met, &setting, book.outcomes());
+    let scene = scene_of(rt, alloc, seed, row)?;
+    note_plans(met, &scene.setting, scene.book.outcomes());
     if by_threads > 0 {
-        try_run(rt, alloc, course, &setting, true, &FreeGate, &case, met)?;
+        try_run(rt, alloc, &scene, true, &FreeGate, met)?;
     }
     if by_threads > 1 {
-        let pattern = seed.wrapping_add(1).wrapping_mul(0x9E37_79B9_7F4A_7C15);
-        let gate = Stumbling { pattern };
-        try_run(rt, alloc, course, &setting, true, &gate, &case, met)?;
+        try_run(rt, alloc, &scene, true, &Stumbling::of(seed), met)?;
     }
-    try_run(rt, alloc, course, &setting, false, &FreeGate, &case, met)
+    try_run(rt, alloc, &scene, false, &FreeGate, met)
 }
 
 // One run, which is judged by the rules and made again step by step.
 fn try_run<R: Threads + Sync + Abort, G: Gate>(
     rt: &R,
     alloc: Global,
-    course: &Course,
-    setting: &Setting,
+    scene: &Scene,
     threads: bool,
     gate: &G,
-    case: &Case,
     met: &mut Met,
-) -> Result<(), Fail>
-    requires { FitsRounds course.now case.now.rounds }
-{
+) -> Result<(), Fail> {
+    let (case, course, setting) = (&scene.case, scene.book.course(), &scene.setting);
     let shown = run_course(rt, alloc, course, case.rounds, threads, gate)?;
     let ticks = case.rounds.saturating_mul(ROUND) as usize;
     let mut marks = vec![in alloc; 0; ticks]?;

@@ -1,5 +1,5 @@
 use Rattle.std.proofs.Common.{◌≡◌, length, map, take}
-use Rattle.tests_stress.proofs.scripts.with_caps.Given as goal
+use Rattle.tests_samples.proofs.host.vcpus_of.Given as goal
 
 abbrev pub invariant-loop-number : goal.invariant-loop-number
 invariant-loop-number l = record {
