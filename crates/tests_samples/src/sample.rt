@@ -32,7 +32,6 @@ pub struct Sample {
     pub script: Script,
     pub ghost some_round: { 1 ≤ rounds },
     pub ghost few_rounds: { rounds ≤ 100 },
-    pub ghost known: { AreWithin (length host.vcpus) script },
     pub ghost in_run: { AreInRun rounds script },
 }
 
@@ -41,7 +40,8 @@ pub struct Sample {
 /// Fails where a number is out of the bounds of hosts, there are more than 64 vCPUs, no round or more than 100, the script is no
 /// script, or memory runs out.
 pub fn sample_of(alloc: Global, case: &Case, mix: &Mix<'_>) -> Result<Sample, Fail>
-    ensures { IfOk result (λ sample. sample.rounds ≡ case.now.rounds) }
+    ensures rounds { IfOk result (λ sample. sample.rounds ≡ case.now.rounds) }
+    ensures known { IfOk result (λ sample. AreWithin (length sample.host.vcpus) sample.script) }
 {
     let rounds = case.rounds;
     if rounds == 0 || rounds > 100 {
