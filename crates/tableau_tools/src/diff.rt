@@ -3,6 +3,7 @@ ghost use Rattle.tab_core.specs.declared.TheConstants.{MAX_VCPUS};
 
 use crate::fault::Fault;
 use crate::form::{Form, form_of};
+use crate::input::read_once;
 use crate::output::{finish, output_of};
 use crate::planned::{planned_of, tick_of};
 use clap::ArgMatches;
@@ -20,6 +21,7 @@ const ROOM: usize = 1_048_576;
 /// anything does.
 pub(crate) fn diff(rt: &HostRuntime, matches: &ArgMatches<'_>) -> Result<bool, Fault> {
     let form = form_of(matches)?;
+    read_once(matches.get_str("OLD"), matches.get_str("NEW"))?;
     let old = planned_of(rt, matches.get_str("OLD"))?;
     let new = planned_of(rt, matches.get_str("NEW"))?;
     let host_tick = shared_tick(old.tick_ns(), new.tick_ns())?;
@@ -27,8 +29,8 @@ pub(crate) fn diff(rt: &HostRuntime, matches: &ArgMatches<'_>) -> Result<bool, F
     put_differences(rt, form, &old.view, &new.view, tick_ns)
 }
 
-// Nanoseconds of a tick of the hosts, if there is one, which is the same of both.
-fn shared_tick(old: Option<u32>, new: Option<u32>) -> Result<Option<u32>, Fault> {
+/// Nanoseconds of a tick of the hosts, if there is one, which is the same of both.
+pub(crate) fn shared_tick(old: Option<u32>, new: Option<u32>) -> Result<Option<u32>, Fault> {
     match (old, new) {
         (Some(old), Some(new)) if old != new => Err(Fault::OtherTick { old, new }),
         (Some(tick_ns), _) | (None, Some(tick_ns)) => Ok(Some(tick_ns)),

@@ -115,6 +115,8 @@ pub(crate) enum Fault {
     OtherTexts,
     #[error("standard input is read once: --kinds, --stay and the sizes can't share it")]
     InputTwice,
+    #[error("standard input is read once, so one file alone can be it: name the other")]
+    TwoInputs,
     #[error("{place}the text is no plan")]
     NoPlan {
         place: String,
@@ -215,7 +217,8 @@ impl Fault {
             | Fault::NoSuchHost { .. }
             | Fault::NoFleet
             | Fault::OtherTexts
-            | Fault::InputTwice => 1,
+            | Fault::InputTwice
+            | Fault::TwoInputs => 1,
             Fault::Unread { .. } | Fault::ReadFault { .. } => 4,
             Fault::WriteFault => 5,
             Fault::NoMemory => 6,

@@ -30,6 +30,30 @@ pub(crate) fn input_of(rt: &HostRuntime, path: Option<&str>) -> Result<Input, Fa
     }
 }
 
+/// Refuses two files that are both standard input: a path that is missing, or `-`.
+pub(crate) fn read_once(first: Option<&str>, second: Option<&str>) -> Result<(), Fault> {
+    if is_input(first) && is_input(second) {
+        return Err(Fault::TwoInputs);
+    }
+    Ok(())
+}
+
+/// All of the file of this path as `input_of` reads it, beside which another may be named: standard input can't be both.
+pub(crate) fn input_beside(
+    rt: &HostRuntime,
+    path: Option<&str>,
+    other: Option<&str>,
+) -> Result<Input, Fault> {
+    if other.is_some() {
+        read_once(path, other)?;
+    }
+    input_of(rt, path)
+}
+
+fn is_input(path: Option<&str>) -> bool {
+    matches!(path, None | Some("-"))
+}
+
 // All bytes of a reader, of which there are few enough.
 fn read_whole<R: Read + Drop>(alloc: Global, path: &str, reader: R) -> Result<Input, Fault> {
     let mut bytes = Vec::new(alloc);

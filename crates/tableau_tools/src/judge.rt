@@ -2,7 +2,7 @@ ghost use Rattle.std.specs.Prelude.{◌<◌, ◌≤◌, length};
 ghost use Rattle.tab_core.specs.declared.TheConstants.{MAX_VCPUS};
 
 use crate::fault::Fault;
-use crate::input::{Input, input_of, unread};
+use crate::input::{Input, input_of, read_once, unread};
 use crate::output::{finish, output_of};
 use crate::plan::host_of;
 use crate::shown::{place_of, shown};
@@ -24,6 +24,7 @@ const WINDOW_MS: u32 = 1000;
 /// Does `judge`: it reads a host and a trace of what ran on it, and writes whether the host kept its promises, which is
 /// what it answers.
 pub(crate) fn judge(rt: &HostRuntime, matches: &ArgMatches<'_>) -> Result<bool, Fault> {
+    read_once(matches.get_str("HOST"), matches.get_str("TRACE"))?;
     let Input { place, bytes } = input_of(rt, matches.get_str("HOST"))?;
     let host = host_of(rt.alloc(), &place, &bytes)?;
     let vcpus = host.vcpus.items();

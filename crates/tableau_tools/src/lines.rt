@@ -2,7 +2,7 @@ ghost use Rattle.std.specs.Prelude.{◌≤◌, length};
 ghost use Rattle.tab_core.specs.declared.TheConstants.{MAX_VCPUS};
 
 use crate::fault::Fault;
-use crate::input::{Input, input_of};
+use crate::input::{Input, input_beside};
 use crate::map::{rename, renamed, renamings_of};
 use crate::output::{finish, output_of};
 use crate::plan::{host_of, plan_of};
@@ -51,7 +51,8 @@ pub(crate) fn export_lines(
     matches: &ArgMatches<'_>,
     form: Form,
 ) -> Result<(), Fault> {
-    let Input { place, bytes } = input_of(rt, matches.get_str("FILE"))?;
+    let map = matches.get_str("map");
+    let Input { place, bytes } = input_beside(rt, matches.get_str("FILE"), map)?;
     let sections = cut_sections(&bytes);
     if sections.count() != 2 {
         return Err(Fault::NoHost {
@@ -61,7 +62,7 @@ pub(crate) fn export_lines(
     }
     let host = host_of(rt.alloc(), &place, sections.part(0))?;
     let mut view = plan_of(rt.alloc(), &place, sections.part(1))?;
-    let renamings = renamings_of(rt, matches.get_str("map"))?;
+    let renamings = renamings_of(rt, map)?;
     rename(rt.alloc(), &renamings, &mut view.names)?;
     let vcpus = renamed(rt.alloc(), &renamings, host.vcpus.items())?;
     if let Some(fault) = refused(form, host.tick_ns, &vcpus, &view) {

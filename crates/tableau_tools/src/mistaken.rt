@@ -62,7 +62,7 @@ fn first_line(bytes: &[u8]) -> &[u8] {
 
 // What a text is that begins with this line, where it is one of those that are given by mistake.
 fn other_kind(first: &[u8], wanted: Wanted) -> Option<&'static str> {
-    if first.starts_with(b"[[vcpu]]") || is_key(first, b"cores") || is_key(first, b"format") {
+    if first.starts_with(b"[[vcpu]]") || is_of_host(first) {
         return Some("it is a host document: tableau plan makes a plan of it");
     }
     if first.starts_with(b"{") || first.starts_with(b"[") {
@@ -82,7 +82,22 @@ fn other_kind(first: &[u8], wanted: Wanted) -> Option<&'static str> {
     }
 }
 
-// Whether the line gives this key of a host document a value.
+// The keys with which a host document may begin.
+const HOST_KEYS: [&[u8]; 7] = [
+    b"format", b"tick_ns", b"cores", b"lag", b"sliver", b"quantum", b"vcpu",
+];
+
+// Whether the line gives a key of a host document a value.
+fn is_of_host(line: &[u8]) -> bool {
+    for key in HOST_KEYS {
+        if is_key(line, key) {
+            return true;
+        }
+    }
+    false
+}
+
+// Whether the line gives this key a value.
 fn is_key(line: &[u8], key: &[u8]) -> bool {
     match line.strip_prefix(key) {
         Some(rest) => rest.trim_ascii_start().starts_with(b"="),

@@ -1,11 +1,12 @@
 ghost use Rattle.std.specs.Prelude.{◌<◌, ◌≤◌, ◌^◌, length};
 ghost use Rattle.tab_core.specs.declared.TheConstants.{MAX_CORES, MAX_VCPUS};
 
-use crate::diff::differences_of;
+use crate::diff::{differences_of, shared_tick};
 use crate::fault::Fault;
-use crate::input::{Input, input_of};
+use crate::input::{Input, input_beside};
 use crate::output::{finish, output_of};
 use crate::plan::{drawable, host_of, plan_of, view_in};
+use crate::planned::planned_of;
 use clap::ArgMatches;
 use tab_core::{Host, MAX_TICK_NS};
 use tab_io::MemSink;
@@ -16,8 +17,8 @@ use view_table::figures_of;
 
 /// Does `report`: it reads a host and its plan, or a host, a script and the trace of its run, and writes a page of HTML.
 pub(crate) fn report(rt: &HostRuntime, matches: &ArgMatches<'_>) -> Result<(), Fault> {
-    let Input { place, bytes } = input_of(rt, matches.get_str("FILE"))?;
     let old = matches.get_str("old");
+    let Input { place, bytes } = input_beside(rt, matches.get_str("FILE"), old)?;
     let sections = cut_sections(&bytes);
     match sections.count() {
         2 => {
@@ -51,13 +52,13 @@ fn put_plan(rt: &HostRuntime, host: &Host, view: View, old: Option<&str>) -> Res
     }
 }
 
-// What differs from the plan of this file.
+// What differs from the plan of this file, which may have its host before it.
 fn since(rt: &HostRuntime, path: &str, view: &View, tick_ns: u32) -> Result<MemSink, Fault>
     requires { length view.now.tasks.items ≤ MAX_VCPUS }
 {
-    let old = input_of(rt, Some(path))?;
-    let old = plan_of(rt.alloc(), &old.place, &old.bytes)?;
-    differences_of(rt.alloc(), &old, view, tick_ns)
+    let old = planned_of(rt, Some(path))?;
+    shared_tick(old.tick_ns(), Some(tick_ns))?;
+    differences_of(rt.alloc(), &old.view, view, tick_ns)
 }
 
 // Writes the page to standard output.

@@ -13,7 +13,13 @@ pub(crate) fn sections(rt: &HostRuntime, matches: &ArgMatches<'_>) -> Result<(),
     let Some(paths) = matches.get_strs("FILE") else {
         return Ok(());
     };
+    let mut has_read = false;
     for path in paths {
+        let is_input = *path == "-";
+        if is_input && has_read {
+            return Err(Fault::TwoInputs);
+        }
+        has_read = has_read || is_input;
         let Input { place, bytes } = input_of(rt, Some(*path))?;
         if let Some(line) = first_cut(&bytes) {
             return Err(Fault::HasSeparator { place, line });
