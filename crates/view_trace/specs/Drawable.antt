@@ -24,6 +24,7 @@ HasLane Run (Some cpu) = cpu < MAX_CORES
 HasLane Wait cpu = Unit {0}
 HasLane Block cpu = Unit {0}
 
+-- a mark whose vCPU, where it runs, has a lane
 abbrev pub IsPlacedMark : Mark → Type 0
 IsPlacedMark mark = HasLane mark.state mark.cpu
 

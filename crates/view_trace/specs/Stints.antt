@@ -9,11 +9,12 @@ use Rattle.view_trace.specs.declared.stints.TraceStint.{TraceStint}
 
 -- ---- times
 
--- the time of the first line that says something, and of the last
+-- the time of the first line that says something, and 0 where there is none
 abbrev pub trace_begin : List Mark → ℕ
 trace_begin [] = 0
 trace_begin (mark ∷ marks) = mark.time_ns
 
+-- the time of the last line that says something, and 0 where there is none
 abbrev pub end_of_trace : List Mark → ℕ
 end_of_trace marks = last_time 0 marks
 
@@ -23,6 +24,7 @@ trace_span marks = end_of_trace marks - trace_begin marks
 
 -- ---- stretches
 
+-- whether a line that may name a vCPU names this one
 abbrev pub is_of : ℕ → Option ℕ → Bool
 is_of vcpu None = false
 is_of vcpu (Some other) = other == vcpu
@@ -40,6 +42,7 @@ stint_in line from Run (Some vcpu) (Some cpu) end =
     else []
 stint_in line from _ _ _ end = []
 
+-- the stretch from a mark up to a time, if there is one
 abbrev pub stint_at : Mark → ℕ → List TraceStint
 stint_at mark end = stint_in mark.line mark.time_ns mark.state mark.vcpu mark.cpu end
 
@@ -53,6 +56,7 @@ abbrev pub stints_up_to : ℕ → List Mark → List TraceStint
 stints_up_to end [] = []
 stints_up_to end (mark ∷ marks) = stint_at mark (next_of end marks mark.vcpu) ++ stints_up_to end marks
 
+-- the stretches of a whole trace, up to its last line
 abbrev pub trace_stints : List Mark → List TraceStint
 trace_stints marks = stints_up_to (end_of_trace marks) marks
 
