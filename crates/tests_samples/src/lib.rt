@@ -11,5 +11,5 @@ mod stumbling;
 
 pub use mix::{Edits, Kind, Mix};
 pub use sample::{Case, Sample, sample_of};
-pub use sets::{bit, capped_of};
+pub use sets::{bit, capped_of, spread};
 pub use stumbling::Stumbling;

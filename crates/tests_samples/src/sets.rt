@@ -19,7 +19,7 @@ pub fn capped_of(host: &Host) -> u64 {
     capped
 }
 
-// A word that looks random, by its number: the number times 2^64 by the golden ratio. That of 0 is 0.
-pub(crate) fn spread(number: u64) -> u64 {
+/// A word that looks random, by its number: the number times 2^64 by the golden ratio. That of 0 is 0.
+pub fn spread(number: u64) -> u64 {
     number.wrapping_mul(0x9E37_79B9_7F4A_7C15)
 }

@@ -6,6 +6,8 @@
 #[cfg(test)]
 mod judging;
 #[cfg(test)]
+mod leaving;
+#[cfg(test)]
 mod ordering;
 #[cfg(test)]
 mod pictures;

@@ -54,7 +54,7 @@ const ALONE: [Row; 6] = [
 // runs that use several plans, cores with shared and with idle ticks, and cores that idle where a capped vCPU is
 // runnable at home.
 #[derive(Clone, Copy, Debug)]
-struct Met {
+pub(crate) struct Met {
     splits: u32,
     planned: u32,
     unplanned: u32,
@@ -64,7 +64,7 @@ struct Met {
     capped: u32,
 }
 
-const NOTHING: Met = Met {
+pub(crate) const NOTHING: Met = Met {
     splits: 0,
     planned: 0,
     unplanned: 0,
@@ -118,7 +118,7 @@ fn try_row<R: Threads + Sync + Abort>(
 }
 
 // One run, which is judged by the rules and made again step by step.
-fn try_run<R: Threads + Sync + Abort, G: Gate>(
+pub(crate) fn try_run<R: Threads + Sync + Abort, G: Gate>(
     rt: &R,
     alloc: Global,
     scene: &Scene,
