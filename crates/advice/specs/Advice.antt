@@ -175,7 +175,7 @@ known_text refusal.TooLong =
 known_text refusal.TraceTooLong =
     codes "tableau: a run keeps 1048576 stints at most; take fewer rounds, or a longer lag or quantum,\ntableau: or the report alone: tableau run ROUNDS\n"
 known_text refusal.WriteFault =
-    codes "tableau: the output failed; what stands there may be a front of the answer\n"
+    codes "tableau: the output failed; what is there may be only the beginning of the answer\n"
 known_text refusal.NoMemory = codes "tableau: memory ran out; take fewer rounds or a smaller host\n"
 known_text other = []
 

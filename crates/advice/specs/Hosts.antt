@@ -11,7 +11,7 @@ abbrev pub toml_text_at : List ℕ → Place → List ℕ → List ℕ
 toml_text_at text place message = codes "tableau: host, line "
     ++ (decimal place.line ++ (codes ", column " ++ (decimal place.column ++ (codes ": "
     ++ (message ++ (codes "\ntableau: " ++ (quoted (line_at place.line text)
-    ++ codes "; texts stand in quotes, and a number has neither % nor unit:\ntableau: share_ppm 200000 is 20 %, latency_ns 20000000 is 20 ms\n")))))))
+    ++ codes "; texts are in quotes, and a number has neither % nor unit:\ntableau: share_ppm 200000 is 20 %, latency_ns 20000000 is 20 ms\n")))))))
 
 -- the advice on a host section that is no TOML from this byte on, as the reader's message says
 abbrev pub toml_text : List ℕ → ℕ → List ℕ → List ℕ

@@ -16,7 +16,7 @@ host_rule Lag = codes "lag is a whole number from 1 to 102600, in ticks, and 100
 host_rule Sliver = codes "sliver is a whole number from 0 to 1000, in ticks, and 30 where it is left out"
 host_rule Quantum = codes "quantum is a whole number from 1 to 102600, in ticks, and 1000 where it is left out"
 host_rule Vcpu = codes "vcpu is an array of tables; a line [[vcpu]] begins each"
-host_rule key = codes " is no key of a host; those are format, tick_ns (in format 2), cores, lag, sliver, quantum and vcpu"
+host_rule key = codes " is no key of a host of this format; those are format, cores, lag, sliver, quantum and vcpu,\ntableau: and tick_ns beside format = 2"
 
 -- what a key of a vCPU has to be; any other is none
 abbrev pub vcpu_rule : Key → List ℕ

@@ -64,7 +64,7 @@ old_line_text plan number = codes "tableau: plan line "
 
 -- the advice on a plan whose segment of this place on a core, from 0, doesn't end where it may
 abbrev pub shape_text : ℕ → ℕ → List ℕ
-shape_text core place = codes "tableau: behind core "
+shape_text core place = codes "tableau: in the row of core "
     ++ (decimal core ++ (codes ", segment " ++ (decimal place
     ++ codes " (from 0) has to end above the one before it, and at 102600 at most,\ntableau: where the last one ends\n")))
 

@@ -35,7 +35,7 @@ near_from number (line ∷ lines) = if is_near line then Some (number, line) els
 abbrev pub near_text : ℕ → List ℕ → List ℕ
 near_text number line = codes "tableau: line "
     ++ (decimal number ++ (codes ", " ++ (quoted line
-    ++ codes ", isn't exactly %%; the line before may lack its line feed, or this one end in CR LF\n")))
+    ++ codes ", isn't exactly %%; the line before may be missing its line feed, or this one end in CR LF\n")))
 
 -- what is said of a line that is almost a separator; nothing where there is none
 abbrev pub near_part : Option (ℕ × List ℕ) → List ℕ

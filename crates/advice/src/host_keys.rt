@@ -262,7 +262,7 @@ fn host_rule(key: Key) -> &'static [u8]
             b"quantum is a whole number from 1 to 102600, in ticks, and 1000 where it is left out",
         Key::Vcpu => b"vcpu is an array of tables; a line [[vcpu]] begins each",
         _ =>
-            b" is no key of a host; those are format, tick_ns (in format 2), cores, lag, sliver, quantum and vcpu",
+            b" is no key of a host of this format; those are format, cores, lag, sliver, quantum and vcpu,\ntableau: and tick_ns beside format = 2",
     }
 }
 

@@ -48,7 +48,7 @@ fn put_toml_at<'a, K: Sink>(
             Part::Text(b"\ntableau: "),
             Part::Quoted(line_at(text, place.line)),
             Part::Text(
-                b"; texts stand in quotes, and a number has neither % nor unit:\ntableau: share_ppm 200000 is 20 %, latency_ns 20000000 is 20 ms\n",
+                b"; texts are in quotes, and a number has neither % nor unit:\ntableau: share_ppm 200000 is 20 %, latency_ns 20000000 is 20 ms\n",
             ),
         ],
     )

@@ -181,11 +181,17 @@ fn old_wanted_text(number: u32) -> &'static [u8]
 pub(crate) fn put_shape<K: Sink>(sink: &mut K, core: CoreNo, place: u32) -> Result<(), WriteFault>
     ensures { Writes (K.state sink.old) (K.state sink.new) (shape_text core place) result }
 {
+    put_segment(sink, core.0, place)
+}
+
+fn put_segment<K: Sink>(sink: &mut K, core: u32, place: u32) -> Result<(), WriteFault>
+    ensures { Writes (K.state sink.old) (K.state sink.new) (shape_text core place) result }
+{
     put_parts(
         sink,
         &[
-            Part::Text(b"tableau: behind core "),
-            Part::Number(core.0),
+            Part::Text(b"tableau: in the row of core "),
+            Part::Number(core),
             Part::Text(b", segment "),
             Part::Number(place),
             Part::Text(

@@ -62,7 +62,7 @@ fn put_near<K: Sink>(sink: &mut K, number: u32, line: &[u8]) -> Result<(), Write
             Part::Text(b", "),
             Part::Quoted(line),
             Part::Text(
-                b", isn't exactly %%; the line before may lack its line feed, or this one end in CR LF\n",
+                b", isn't exactly %%; the line before may be missing its line feed, or this one end in CR LF\n",
             ),
         ],
     )

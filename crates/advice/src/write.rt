@@ -143,7 +143,7 @@ fn known_text(refusal: &Refusal) -> &'static [u8]
         Refusal::TraceTooLong =>
             b"tableau: a run keeps 1048576 stints at most; take fewer rounds, or a longer lag or quantum,\ntableau: or the report alone: tableau run ROUNDS\n",
         Refusal::WriteFault =>
-            b"tableau: the output failed; what stands there may be a front of the answer\n",
+            b"tableau: the output failed; what is there may be only the beginning of the answer\n",
         Refusal::NoMemory => b"tableau: memory ran out; take fewer rounds or a smaller host\n",
         _ => b"",
     }
