@@ -73,16 +73,24 @@ object_of (Some vcpu) report = said_of vcpu.name report
 abbrev pub entry_text : List Vcpu → List VcpuReport → ℕ → List ℕ
 entry_text vcpus reports v = comma_before v ++ object_of (slice_get vcpus v) (slice_get reports v)
 
--- the text up to the vCPUs
+-- the members of a whole trace: the length of a window, and whether all was kept
 unfoldable pub judgement_json_begin : ℕ → List ℕ → List ℕ
 judgement_json_begin window kept = codes "{\"form\":1,\"window_ns\":" ++ (decimal window ++ (codes ",\"kept\":"
-    ++ (kept ++ codes ",\"vcpus\":[")))
+    ++ (kept ++ codes ",")))
 
--- the text of what is said of the vCPUs of a host
-abbrev pub judgement_json_of : ℕ → Bool → List Vcpu → List VcpuReport → List ℕ
-judgement_json_of window kept vcpus reports = judgement_json_begin window (truth_text kept)
-    ++ (texts_below (entry_text vcpus reports) (length reports) ++ codes "]}\n")
+-- the members of how many lines put two vCPUs on one CPU, put a vCPU on two CPUs, have a time that falls, and are of
+-- a vCPU that the host doesn't have; then what begins the vCPUs
+unfoldable pub line_counts_json : ℕ → ℕ → ℕ → ℕ → List ℕ
+line_counts_json shared doubled falls unknown = codes "\"shared_cpu_lines\":" ++ (decimal shared
+    ++ (codes ",\"two_cpu_lines\":" ++ (decimal doubled ++ (codes ",\"falling_lines\":" ++ (decimal falls
+    ++ (codes ",\"unknown_vcpu_lines\":" ++ (decimal unknown ++ codes ",\"vcpus\":[")))))))
+
+-- the vCPUs of which something is reported, and the end
+abbrev pub judgement_json_vcpus : List Vcpu → List VcpuReport → List ℕ
+judgement_json_vcpus vcpus reports = texts_below (entry_text vcpus reports) (length reports) ++ codes "]}\n"
 
 -- what a judge reports of a host's vCPUs, as JSON
 abbrev pub judgement_json : List Vcpu → Report → List ℕ
-judgement_json vcpus report = judgement_json_of report.window_ns (are_promises_kept report) vcpus report.vcpus.items
+judgement_json vcpus report = judgement_json_begin report.window_ns (truth_text (are_promises_kept report))
+    ++ (line_counts_json report.shared.count report.doubled.count report.falls.count report.unknown.count
+    ++ judgement_json_vcpus vcpus report.vcpus.items)

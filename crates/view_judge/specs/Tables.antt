@@ -10,7 +10,7 @@ use Rattle.host_judge.specs.declared.report.Report.{Report}
 use Rattle.host_judge.specs.declared.report.VcpuReport.{VcpuReport}
 use Rattle.vcpu_names.specs.Names.{names_of}
 use Rattle.view_judge.specs.Cells.{begin_cell, cpu_cell, judged_asked_cell, judged_promised_cell, late_cell, least_cell, longest_cell, window_cell}
-use Rattle.view_judge.specs.Verdicts.{are_promises_kept}
+use Rattle.view_judge.specs.Verdicts.{are_promises_kept, is_any_seen}
 
 -- what parts a column from the one before
 abbrev pub gap : List ℕ
@@ -121,10 +121,16 @@ fall_kind = codes "lines whose time falls"
 abbrev pub unknown_kind : List ℕ
 unknown_kind = codes "lines of a vCPU that the host doesn't have"
 
+-- the line that says that none of the host's vCPUs was seen, and nothing where one was
+abbrev pub unseen_text : Bool → List ℕ
+unseen_text true = []
+unseen_text false = codes "no vCPU of the host ran, waited or was blocked\n"
+
 -- what is wrong with the trace itself
 abbrev pub lines_text : Report → List ℕ
-lines_text report = line_count_text shared_kind report.shared ++ (line_count_text doubled_kind report.doubled
-    ++ (line_count_text fall_kind report.falls ++ line_count_text unknown_kind report.unknown))
+lines_text report = unseen_text (is_any_seen report.vcpus.items) ++ (line_count_text shared_kind report.shared
+    ++ (line_count_text doubled_kind report.doubled ++ (line_count_text fall_kind report.falls
+    ++ line_count_text unknown_kind report.unknown)))
 
 -- the tables of shares and of waits, with names in a column of so many bytes
 abbrev pub rows_text : ℕ → List Vcpu → List VcpuReport → List ℕ

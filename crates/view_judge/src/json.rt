@@ -2,7 +2,8 @@ ghost use Rattle.std.specs.Prelude.{◌≡◌, length, slice_get};
 ghost use Rattle.tab_io.specs.Sinks.{Writes};
 ghost use Rattle.tab_words.specs.Texts.{texts_below};
 ghost use Rattle.view_cells.specs.CellTexts.{comma_before, truth_text};
-ghost use Rattle.view_judge.specs.Json.{entry_text, judgement_json, judgement_json_begin, judgement_json_of, kept_text, late_text, late_waits_json, least_share_json, least_text, longest_text, longest_wait_json, object_of, said_of, times_text, vcpu_object};
+ghost use Rattle.view_judge.specs.Json.{entry_text, judgement_json, judgement_json_begin, judgement_json_vcpus, kept_text, late_text, late_waits_json, least_share_json, least_text, line_counts_json, longest_text, longest_wait_json, object_of, said_of, times_text, vcpu_object};
+ghost use Rattle.view_judge.specs.Verdicts.{are_promises_kept};
 
 use crate::verdict::is_kept;
 use host_judge::{LeastShare, LongestWait, Report, VcpuReport};
@@ -11,7 +12,8 @@ use tab_io::{Sink, WriteFault, write_all};
 use tab_words::{TextPiece, put_pieces};
 
 /// Writes what is said of the vCPUs of a host as JSON, in one line: the length of a window in ns, whether the host kept
-/// its promises, and an object for each vCPU in the host's order.
+/// its promises, how many lines contradict others or are of a vCPU that the host doesn't have, and an object for each
+/// vCPU in the host's order.
 ///
 /// Times are in ns and shares in parts per million. Where there is no wait, no window or no reservation, there is
 /// null.
@@ -20,25 +22,31 @@ use tab_words::{TextPiece, put_pieces};
 pub fn write_json<K: Sink>(sink: &mut K, vcpus: &[Vcpu], report: &Report) -> Result<(), WriteFault>
     ensures { Writes (K.state sink.old) (K.state sink.new) (judgement_json vcpus.now report.now) result }
 {
-    put_json(
+    put_begin(sink, report)?;
+    put_line_counts(
         sink,
-        report.window_ns,
-        is_kept(report),
-        vcpus,
-        &report.vcpus,
-    )
+        report.shared.count,
+        report.doubled.count,
+        report.falls.count,
+        report.unknown.count,
+    )?;
+    put_vcpus(sink, vcpus, report)
 }
 
-fn put_json<K: Sink>(
+fn put_vcpus<K: Sink>(sink: &mut K, vcpus: &[Vcpu], report: &Report) -> Result<(), WriteFault>
+    ensures { Writes (K.state sink.old) (K.state sink.new)
+        (judgement_json_vcpus vcpus.now report.now.vcpus.items) result }
+{
+    put_objects(sink, vcpus, &report.vcpus)
+}
+
+fn put_objects<K: Sink>(
     sink: &mut K,
-    window_ns: u64,
-    kept: bool,
     vcpus: &[Vcpu],
     reports: &[VcpuReport],
 ) -> Result<(), WriteFault>
-    ensures { Writes (K.state sink.old) (K.state sink.new) (judgement_json_of window_ns kept vcpus.now reports.now) result }
+    ensures { Writes (K.state sink.old) (K.state sink.new) (judgement_json_vcpus vcpus.now reports.now) result }
 {
-    put_begin(sink, window_ns, kept)?;
     put_entries(sink, vcpus, reports)?;
     write_all(sink, b"]}\n")
 }
@@ -49,11 +57,11 @@ fn truth_text(truth: bool) -> &'static [u8]
     if truth { b"true" } else { b"false" }
 }
 
-// Writes the text up to the vCPUs.
-fn put_begin<K: Sink>(sink: &mut K, window_ns: u64, kept: bool) -> Result<(), WriteFault>
-    ensures { Writes (K.state sink.old) (K.state sink.new) (judgement_json_begin window_ns (truth_text kept)) result }
+fn put_begin<K: Sink>(sink: &mut K, report: &Report) -> Result<(), WriteFault>
+    ensures { Writes (K.state sink.old) (K.state sink.new)
+        (judgement_json_begin report.now.window_ns (truth_text (are_promises_kept report.now))) result }
 {
-    put_window(sink, window_ns, truth_text(kept))
+    put_window(sink, report.window_ns, truth_text(is_kept(report)))
 }
 
 #[tactic(auto, unfolding(crate::specs::Json::judgement_json_begin))]
@@ -67,6 +75,32 @@ fn put_window<K: Sink>(sink: &mut K, window_ns: u64, kept: &[u8]) -> Result<(), 
             TextPiece::Wide(window_ns),
             TextPiece::Text(b",\"kept\":"),
             TextPiece::Text(kept),
+            TextPiece::Text(b","),
+        ],
+    )
+}
+
+#[tactic(auto, unfolding(crate::specs::Json::line_counts_json))]
+fn put_line_counts<K: Sink>(
+    sink: &mut K,
+    shared: u64,
+    doubled: u64,
+    falls: u64,
+    unknown: u64,
+) -> Result<(), WriteFault>
+    ensures { Writes (K.state sink.old) (K.state sink.new) (line_counts_json shared doubled falls unknown) result }
+{
+    put_pieces(
+        sink,
+        &[
+            TextPiece::Text(b"\"shared_cpu_lines\":"),
+            TextPiece::Wide(shared),
+            TextPiece::Text(b",\"two_cpu_lines\":"),
+            TextPiece::Wide(doubled),
+            TextPiece::Text(b",\"falling_lines\":"),
+            TextPiece::Wide(falls),
+            TextPiece::Text(b",\"unknown_vcpu_lines\":"),
+            TextPiece::Wide(unknown),
             TextPiece::Text(b",\"vcpus\":["),
         ],
     )

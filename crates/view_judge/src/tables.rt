@@ -1,16 +1,17 @@
 ghost use Rattle.std.specs.Prelude.{◌≡◌, length, slice_get};
 ghost use Rattle.tab_io.specs.Sinks.{Writes};
 ghost use Rattle.tab_words.specs.Texts.{texts_below};
-ghost use Rattle.view_judge.specs.Tables.{doubled_kind, fall_kind, judgement_end, kept_word, line_count_text, line_text, lines_text, rows_text, share_cells, share_head, share_row, share_said, shared_kind, tables_of, tables_text, unknown_kind, verdict_text, wait_cells, wait_head, wait_row, wait_said};
+ghost use Rattle.view_judge.specs.Verdicts.{is_any_seen};
+ghost use Rattle.view_judge.specs.Tables.{doubled_kind, fall_kind, judgement_end, kept_word, line_count_text, line_text, lines_text, rows_text, share_cells, share_head, share_row, share_said, shared_kind, tables_of, tables_text, unknown_kind, unseen_text, verdict_text, wait_cells, wait_head, wait_row, wait_said};
 
 use crate::cells::{
     asked_cell, begin_cell, cpu_cell, late_cell, least_cell, longest_cell, promised_cell, width_of,
     window_cell,
 };
-use crate::verdict::is_kept;
+use crate::verdict::{is_any_seen, is_kept};
 use host_judge::{LineCount, Report, VcpuReport};
 use tab_core::{Reservation, Vcpu};
-use tab_io::{Sink, WriteFault};
+use tab_io::{Sink, WriteFault, write_all};
 use tab_words::{TextPiece, put_pieces};
 use view_cells::{Cell, put_cells, yes_or_no};
 
@@ -292,10 +293,28 @@ fn kept_word(kept: bool) -> &'static [u8]
 fn put_lines<K: Sink>(sink: &mut K, report: &Report) -> Result<(), WriteFault>
     ensures { Writes (K.state sink.old) (K.state sink.new) (lines_text report.now) result }
 {
+    put_unseen(sink, report)?;
     put_shared(sink, &report.shared)?;
     put_doubled(sink, &report.doubled)?;
     put_falls(sink, &report.falls)?;
     put_unknown(sink, &report.unknown)
+}
+
+fn put_unseen<K: Sink>(sink: &mut K, report: &Report) -> Result<(), WriteFault>
+    ensures { Writes (K.state sink.old) (K.state sink.new)
+        (unseen_text (is_any_seen report.now.vcpus.items)) result }
+{
+    write_all(sink, unseen_text(is_any_seen(&report.vcpus)))
+}
+
+fn unseen_text(is_any_seen: bool) -> &'static [u8]
+    ensures { result.now ≡ unseen_text is_any_seen }
+{
+    if is_any_seen {
+        b""
+    } else {
+        b"no vCPU of the host ran, waited or was blocked\n"
+    }
 }
 
 fn put_shared<K: Sink>(sink: &mut K, lines: &LineCount) -> Result<(), WriteFault>
