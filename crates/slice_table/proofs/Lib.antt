@@ -1,6 +1,7 @@
 pub mod CoreTableLemmas
 pub mod CursorLemmas
 pub mod EndsLemmas
+pub mod OwnSpansLemmas
 pub mod OwnersLemmas
 pub mod ScopeLemmas
 pub mod SightLemmas

@@ -83,6 +83,7 @@ impl EntryList {
     }
 
     /// Appends an entry. Fails only when memory runs out, and leaves the list as it was then.
+    #[inline(always)]
     pub fn push(&mut self, entry: SpanEntry) -> Result<(), AllocError>
         ensures ok { OnOk result (self.new ≡ self.old ++ entry ∷ []) }
         ensures err { OnErr result (self.new ≡ self.old) }

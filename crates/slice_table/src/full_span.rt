@@ -37,7 +37,11 @@ impl FullSpan {
 }
 
 // The core's sharers who are neither away nor the owner.
-fn sharers_there(core_sharers: &VcpuSet, away: &VcpuSet, owner: Option<VcpuNo>) -> VcpuSet
+pub(crate) fn sharers_there(
+    core_sharers: &VcpuSet,
+    away: &VcpuSet,
+    owner: Option<VcpuNo>,
+) -> VcpuSet
     ensures { (v : ℕ) → (IsTrue (has_vcpu result v)
         ↔ (IsTrue (has_vcpu core_sharers.now v) × (IsTrue (has_vcpu away.now v) → ⊥) × (owner ≢ Some v))) }
 {

@@ -9,6 +9,7 @@ mod core_slices;
 mod cursor;
 mod entry_list;
 mod full_span;
+mod own_spans;
 mod owners;
 mod scope;
 mod sight;

@@ -1,4 +1,4 @@
-ghost use Rattle.std.specs.Prelude.{◌≡◌, ℕ, ◌<◌, ◌≤◌, ◌+◌, ◌-◌, ◌*◌, IfOk, min};
+ghost use Rattle.std.specs.Prelude.{◌≡◌, ℕ, ◌<◌, ◌≤◌, ◌+◌, ◌-◌, ◌*◌, IfOk, min, slice_index};
 ghost use Rattle.tab_core.specs.declared.TheConstants.{ROUND};
 ghost use Rattle.slice_table.specs.Inside.SliceLists.{number_in};
 ghost use Rattle.slice_table.specs.Inside.Spans.{AreEnds, IsNear};
@@ -68,31 +68,37 @@ fn block_from(spans: &SpanList, number: u32, slice: u32, size: u32, places: u32)
         → HoldsTick (ends_of spans.now) (number_in result.0 place) ((slice + place) * size) }
     ensures near { IsNear (ends_of spans.now) size result.1 ((slice + places) * size) }
 {
-    let first = holder_from(spans, number, size, slice * size);
+    let end = spans.end(number as usize);
+    let (first, mut end) = holder_from(spans, number, end, size, slice * size);
     let mut last = first;
     let mut rises = 0;
     for place in 0..places - 1 {
-        let next = holder_from(spans, last, size, (slice + place + 1) * size);
+        let (next, next_end) = holder_from(spans, last, end, size, (slice + place + 1) * size);
         rises = with_rise(rises, place, next - last);
         last = next;
+        end = next_end;
     }
     (Block { first, rises }, last)
 }
 
-// The number of the span that holds the tick: the given one or the next. `size` is for the proof alone.
-fn holder_from(spans: &SpanList, number: u32, size: u32, tick: u32) -> u32
+// The number and the end of the span that holds the tick: the given ones or the next span's. `size` is
+// for the proof alone.
+fn holder_from(spans: &SpanList, number: u32, end: u32, size: u32, tick: u32) -> (u32, u32)
     requires ends { AreEnds (ends_of spans.now) }
     requires shortest { IsShortest size (ends_of spans.now) }
     requires near { IsNear (ends_of spans.now) size number tick }
     requires in_round { tick < ROUND }
-    ensures holds { HoldsTick (ends_of spans.now) result tick }
-    ensures from { number ≤ result }
-    ensures next { result ≤ number + 1 }
+    requires end { end ≡ slice_index (ends_of spans.now) number }
+    ensures holds { HoldsTick (ends_of spans.now) result.0 tick }
+    ensures from { number ≤ result.0 }
+    ensures next { result.0 ≤ number + 1 }
+    ensures end { result.1 ≡ slice_index (ends_of spans.now) result.0 }
 {
     let _ = size;
-    if tick < spans.end(number as usize) {
-        number
+    if tick < end {
+        (number, end)
     } else {
-        number + 1
+        let next = number + 1;
+        (next, spans.end(next as usize))
     }
 }

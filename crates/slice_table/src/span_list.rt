@@ -1,7 +1,8 @@
-ghost use Rattle.std.specs.Prelude.{◌≡◌, ◌<◌, ◌++◌, IsTrue, [], ◌∷◌, IfOk, OnOk, Some, length, slice_get, slice_index};
+ghost use Rattle.std.specs.Prelude.{◌≡◌, ◌<◌, ◌≤◌, ◌++◌, All, IsTrue, [], ◌∷◌, IfOk, OnOk, Some, length, map, slice_get, slice_index};
 ghost use Rattle.tab_core.specs.declared.TheConstants.{ROUND};
 ghost use Rattle.slice_table.specs.declared.full_span.FullSpan.{FullSpan};
-ghost use Rattle.slice_table.specs.Inside.SpanLists.{shown_at};
+ghost use Rattle.slice_table.specs.declared.entry_list.SpanEntry.{SpanEntry as EntryValue};
+ghost use Rattle.slice_table.specs.Inside.SpanLists.{shown_at, span_of};
 ghost use Rattle.slice_table.specs.Slices.{ends_of};
 
 use crate::entry_list::{EntryList, SpanEntry};
@@ -49,6 +50,15 @@ impl SpanList {
             entries: EntryList::with_room(alloc, spans)?,
             shown: Vec::new(alloc),
         })
+    }
+
+    /// The spans of these entries, each of which shows what is at its number.
+    pub fn of(entries: EntryList, shown: Vec<Shown>) -> SpanList
+        requires few { length shown.items ≤ length entries }
+        requires within { All (λ (entry : EntryValue). entry.shown < length shown.items) entries }
+        ensures { result ≡ map (span_of shown.items) entries }
+    {
+        SpanList { entries, shown }
     }
 
     /// Appends a span, which shares what the number has, where that is what it shows. The result is the

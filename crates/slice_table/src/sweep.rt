@@ -6,15 +6,17 @@ ghost use Rattle.slice_table.specs.Owners.{AreRowOwners};
 ghost use Rattle.slice_table.specs.Slices.{AreSpansOf};
 
 use crate::full_span::FullSpan;
+use crate::own_spans::{own_spans, owner_place};
 use crate::owners::RowOwners;
 use crate::scope::{Scope, scope_of};
 use crate::sight::{first_numbers, look};
 use crate::span_list::SpanList;
 use std::alloc::{AllocError, Global};
-use tab_core::{CoreNo, MAX_VCPUS, ROUND, VcpuSet};
+use tab_core::{CoreNo, ROUND, VcpuSet};
 use table_form::{Plan, Spot};
 
-/// The spans of the core's row in the plan, by one sweep over the segments of the rows that matter.
+/// The spans of the core's row in the plan: its segments, where no other row matters, else by one sweep
+/// over the segments of the rows that matter.
 pub(crate) fn spans_of(
     alloc: Global,
     plan: &Plan,
@@ -26,6 +28,9 @@ pub(crate) fn spans_of(
     ensures { IfOk result (λ spans. AreSpansOf (plan_view plan.now) core 0 spans ROUND) }
 {
     let scope = scope_of(alloc, plan, owners, core)?;
+    if scope.others.is_empty() {
+        return own_spans(alloc, plan, &scope);
+    }
     sweep(alloc, plan, &scope)
 }
 
@@ -78,10 +83,7 @@ fn add(spans: &mut SpanList, last: &mut [u32; PLACES], span: FullSpan) -> Result
 fn place_of(span: &FullSpan) -> usize
     ensures { result < PLACES }
 {
-    let owner = match span.owner {
-        None => MAX_VCPUS as usize,
-        Some(vcpu) => vcpu.index(),
-    };
+    let owner = owner_place(span.owner);
     if span.away.same(&VcpuSet::empty()) {
         2 * owner
     } else {
