@@ -436,6 +436,24 @@ impl Core<'_> {
     }
 }
 
+/// How far the core of least clock runs on in a turn, and in how many turns in a row none had to wait.
+struct Window {
+    ticks: u32,
+    calm: u32,
+}
+
+impl Window {
+    /// A core ran on, and had to wait at last or hadn't.
+    fn note(&mut self, waits: bool) {
+        self.calm = if waits { 0 } else { self.calm + 1 };
+        if waits {
+            self.ticks /= 2;
+        } else if self.calm == 512 {
+            (self.ticks, self.calm) = (2 * self.ticks + 1, 0);
+        }
+    }
+}
+
 struct Run<'a> {
     lag: u32,
     quantum: u32,
@@ -506,16 +524,17 @@ impl<'a> Run<'a> {
         u32::MAX
     }
 
-    /// The core runs one stint, if no event is due that isn't posted. Says whether it did.
-    fn run_stint(&mut self, core: &mut Core<'a>) -> bool {
+    /// The core runs one stint, if that ends by the limit and no event is due that isn't posted. Says whether it did.
+    fn run_stint(&mut self, core: &mut Core<'a>, limit: u32) -> bool {
         if self.events.get(self.posted).is_some_and(|event| event.tick + self.lag <= core.clock) {
             return false;
         }
         if core.place == core.spans.len() {
             self.enter(core);
         }
-        core.run_round::<true, false>(&self.runnable, self.lag, self.quantum, u32::MAX);
-        true
+        let clock = core.clock;
+        core.run_round::<true, false>(&self.runnable, self.lag, self.quantum, limit);
+        core.clock > clock
     }
 
     /// Again and again those cores run on whose next stint may end no more than a lag above the slowest clock.
@@ -568,30 +587,34 @@ impl<'a> Run<'a> {
         while self.post(self.lag) {}
         for it in 0..cores.len() {
             if cores.len() == 1 {
-                while cores[it].clock < self.end && self.run_stint(&mut cores[it]) {}
+                while cores[it].clock < self.end && self.run_stint(&mut cores[it], u32::MAX) {}
                 break;
             }
             let others = cores.iter().filter(|core| core.number != it);
             let limit = others.map(|core| core.clock).min().unwrap() + self.lag;
             self.run_core::<false>(&mut cores[it], limit);
         }
-        // then the core of least clock runs a stint, or on where it is the only one, and the controller posts
-        // an event after as many turns as there are cores, or where no core gets on
+        // then the core of least clock runs on, within the window or where it is the only one, and the controller
+        // posts an event after as many turns as there are cores, or where no core gets on
         let mut out = vec![false; cores.len()];
         let (mut turns, mut posting) = (0, true);
+        let mut window = Window { ticks: self.lag / 2, calm: 0 };
         loop {
             let running = out.iter().filter(|it| !**it).count();
             let least = (0..cores.len()).filter(|&it| !out[it]).min_by_key(|&it| cores[it].clock);
             let mut moved = false;
             if let Some(it) = least {
-                while cores[it].clock < self.end && self.run_stint(&mut cores[it]) {
-                    moved = true;
-                    if running > 1 {
-                        break;
-                    }
+                let limit = if running > 1 { cores[it].clock + window.ticks } else { u32::MAX };
+                let others = cores.iter().filter(|core| core.number != it);
+                let heard = others.map(|core| core.clock + self.lag).min().unwrap_or(u32::MAX);
+                let mut waits = false;
+                while cores[it].clock <= limit && !waits && !out[it] {
+                    out[it] = cores[it].clock == self.end;
+                    waits = !out[it] && !self.run_stint(&mut cores[it], heard);
+                    moved |= !waits;
                 }
-                if !moved && cores[it].clock == self.end || running == 1 && cores[it].clock == self.end {
-                    (out[it], moved) = (true, true);
+                if moved && !out[it] {
+                    window.note(waits);
                 }
             }
             if posting {

@@ -121,9 +121,10 @@ fn make_cores<'a>(
 /// Turns of those actors whose parts the seat holds, until all of them have finished, or none of them gets on in
 /// `PATIENCE` turns in a row.
 ///
-/// In a turn the core of least clock runs a stint, or on until it is stuck where it is the only one. The controller makes
-/// a step once in as many turns as there are cores, and in each turn in which none of them gets on, until it has posted
-/// all. The gate is passed before each step, also before the one that finds that its actor has finished.
+/// In a turn the core of least clock runs on, as far above that clock as others seldom keep it waiting (`Guess`), or until
+/// it is stuck where it is the only one. The controller makes a step once in as many turns as there are cores, and in
+/// each turn in which none of them gets on, until it has posted all. The gate is passed before each step, also before
+/// the one that finds that its actor has finished.
 ///
 /// Each actor agrees with its part, which it does again afterwards. At the end the actors that the seat holds are at
 /// rest. Its cores have finished, or one of least clock among them waits: the last that it did, in this call, was to

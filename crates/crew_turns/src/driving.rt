@@ -49,7 +49,7 @@ pub fn drive_all<C: CoreStepper + Drop, L: Stepper + Drop, G: Gate>(
     ensures ended { result ≡ HasEnded → AllHaveEnded C.kind L.kind cores.new lead.new (view_of seat.new) }
 {
     let ticks = read_clocks(seat, cores);
-    let guess = Guess::of(&ticks, cores.len() as u32);
+    let guess = Guess::of(&ticks, cores.len() as u32, site.lag);
     let mut roster = Roster {
         ticks,
         posting: seat.holds(CONTROLLER),

@@ -233,6 +233,8 @@ fn run_core<C: CoreStepper + Drop, G: Gate>(
         };
     }
     roster.ticks[core as usize] = reached.clock;
-    roster.guess.note(core, reached.clock);
+    roster
+        .guess
+        .note(core, reached.clock, reached.turn != Turn::Moved);
     Progress::Moved
 }

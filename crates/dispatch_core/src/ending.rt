@@ -53,7 +53,7 @@ pub(crate) fn end(
     let next = next_stint_in(due.outline, CoreNo(log.core), &begin, start, &span);
     let (cores, lag) = (due.outline.cores(), due.outline.lag());
     let keeps = log.stints.len() < log.keep as usize;
-    if keeps || !seat.is_near(log.core, cores, lag, next.stint.end) {
+    if keeps {
         return end_otherwise(board, seat, log, place, due);
     }
     match hear_all(
@@ -115,7 +115,17 @@ fn end_anew(
     // the clock's round is the last one that was entered
     let start = (log.used.len() as u32 - 1) * ROUND;
     let span = due.table.span_near(log.clock - start, place);
-    run_at(board, seat, log, &due, start, &span)
+    let ended = run_at(board, seat, log, &due, start, &span);
+    *place = place_after(*place, &ended, start.wrapping_add(span.end));
+    ended
+}
+
+// A guess at the number of the span at which the next step begins, after a step at this one, whose end is given.
+fn place_after(place: u32, ended: &Ended, end: u32) -> u32 {
+    match ended {
+        Ended::Ran(stint) => place_behind(place, stint, end),
+        Ended::Behind { .. } => place,
+    }
 }
 
 // A guess at the number of the next span, which is the one after where the stint ends this one, whose end is given.
