@@ -1,4 +1,4 @@
--- A view as a picture, in SVG: a lane for each core or vCPU, a box for each slot or stint.
+-- A view as a picture, in SVG: a lane for each core or vCPU, with boxes for its slots or stints.
 -- Source: Scalable Vector Graphics (SVG) 1.1, W3C Recommendation.
 use Rattle.std.specs.Prelude.{ℕ, ◌+◌, ◌++◌, List, [], Option, codes, if◌then◌else◌, length, slice_index_or}
 use Rattle.tab_words.specs.Texts.{texts_below}

@@ -19,11 +19,11 @@ use view_table::Figures;
 
 /// Draws a view of at most 32 cores and 256 vCPUs as a picture, in SVG.
 ///
-/// Each core or vCPU that the options name has a lane, with a box for each slot of a plan or stint of a run of the
-/// ticks that are shown, and right of the lane a key. On a vCPU's lane of a plan a line marks its longest wait,
-/// which the figures have; right of it are how long it is and the promise, in nanoseconds, if there is one. A fault
-/// of writing leaves a prefix of the text in the sink; nothing is written where there is no memory, or where no
-/// tick or no lane is shown. Nothing is settled.
+/// Each core or vCPU that the options name has a lane, and right of it a key. In the ticks that are shown the lane
+/// has a box for each slot of a plan, and of a run for each shared stint and for each slot as far as it ran on. On a
+/// vCPU's lane of a plan a line marks its longest wait, which the figures have; right of it are how long it is and
+/// the promise, in nanoseconds, if there is one. A fault of writing leaves a prefix of the text in the sink; nothing
+/// is written where there is no memory, or where no tick or no lane is shown. Nothing is settled.
 pub fn write_chart<K: Sink>(
     alloc: Global,
     sink: &mut K,

@@ -19,10 +19,10 @@ use view_table::Figures;
 
 /// Draws a host's trace of at most 32 cores and 256 vCPUs, which ends at a tick, as a picture, in SVG.
 ///
-/// Each core or vCPU that the options name has a lane, with a box for each stint of the ticks that are shown, and right of
-/// the lane a key, as `write_chart` draws a run. It has no rounds, and its times are in ns. A fault of writing leaves a
-/// prefix of the text in the sink; nothing is written where there is no memory, or where no tick or no lane is
-/// shown. Nothing is settled.
+/// Each core or vCPU that the options name has a lane, with boxes for its stints in the ticks that are shown, and
+/// right of the lane a key, as `write_chart` draws a run. It has no rounds, and its times are in ns. A fault of
+/// writing leaves a prefix of the text in the sink; nothing is written where there is no memory, or where no tick
+/// or no lane is shown. Nothing is settled.
 pub fn write_trace_chart<K: Sink>(
     alloc: Global,
     sink: &mut K,

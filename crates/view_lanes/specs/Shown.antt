@@ -42,6 +42,7 @@ frame_of view options = record {
   tick = options.tick_ns;
   by_vcpu = options.by_vcpu;
   is_run = view.is_run;
+  has_rounds = true;
   picture = options.picture;
 }
 
@@ -53,6 +54,7 @@ trace_frame options end = record {
   tick = options.tick_ns;
   by_vcpu = options.by_vcpu;
   is_run = true;
+  has_rounds = false;
   picture = options.picture;
 }
 
@@ -110,7 +112,7 @@ abbrev pub shows_nothing : ChartOptions → View → Bool
 shows_nothing options view =
     nat_le (frame_of view options).to (frame_of view options).from || (lanes_of view options == 0)
 
--- a lane of more than 342 bars is drawn in columns, another by a box for each bar
+-- a lane of more than 342 bars is drawn in columns, another in boxes
 abbrev pub is_dense : List Bar → Bool
 is_dense bars = nat_lt 342 (length bars)
 

@@ -20,7 +20,7 @@ pub struct ChartOptions {
 }
 
 /// The ticks that are shown, from the first up to, and without, the last, how many ns one has, whether the lanes
-/// are those of vCPUs, whether a run is shown, and the picture's number on its page.
+/// are those of vCPUs, whether a run is shown, whether the ticks are in rounds, and the picture's number on its page.
 #[derive(Clone, Copy)]
 pub struct Frame {
     pub from: u32,
@@ -28,12 +28,13 @@ pub struct Frame {
     pub tick: u16,
     pub by_vcpu: bool,
     pub is_run: bool,
+    pub has_rounds: bool,
     pub picture: u32,
 }
 
 /// The ticks of a lane that a vCPU has, in its slot or in time that nobody used. What tells the bars of a lane
 /// apart is the vCPU's number on a core's lane, and the core's on a vCPU's.
-#[derive(Clone, Copy)]
+#[derive(Clone, Copy, Default)]
 pub struct Bar {
     pub from: u32,
     pub end: u32,

@@ -84,6 +84,7 @@ pub fn frame_of(view: &View, options: &ChartOptions) -> Frame
         tick: options.tick_ns,
         by_vcpu: options.by_vcpu,
         is_run: view.is_run,
+        has_rounds: true,
         picture: options.picture,
     }
 }
@@ -98,6 +99,7 @@ pub fn trace_frame(options: &ChartOptions, end: u32) -> Frame
         tick: options.tick_ns,
         by_vcpu: options.by_vcpu,
         is_run: true,
+        has_rounds: false,
         picture: options.picture,
     }
 }

@@ -10,7 +10,7 @@ use Rattle.view_lanes.specs.Shown.{held_in, is_dense}
 use Rattle.view_lanes.specs.declared.frame.Bar.{Bar}
 use Rattle.view_lanes.specs.declared.frame.Frame.{Frame}
 
--- the bars of a lane: each as a box, or as columns where they are many
+-- the bars of a lane: as boxes, or as columns where they are many
 unfoldable pub lane_body : Frame → ℕ → ℕ → List (List ℕ) → List Task → List ℕ → List Bar → List ℕ
 lane_body f y high names tasks colours bars =
     if is_dense bars then columns_text f y high names tasks colours bars

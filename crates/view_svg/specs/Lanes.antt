@@ -8,6 +8,7 @@ use Rattle.vcpu_names.specs.Names.{name_at}
 use Rattle.view_doc.specs.declared.view.Task.{Task}
 use Rattle.view_table.specs.declared.figures.Figures.{Figures}
 use Rattle.view_svg.specs.Frames.{letters_of, right_end, x_at}
+use Rattle.view_svg.specs.Joined.{boxes_of, seams_of}
 use Rattle.view_svg.specs.Marks.{box_path, short_back, short_dots, short_front}
 use Rattle.view_lanes.specs.Amounts.{tenths_ms}
 use Rattle.view_lanes.specs.declared.frame.Bar.{Bar}
@@ -122,12 +123,22 @@ unfoldable pub names_begin : ℕ → List ℕ
 names_begin letters = codes "\"/>\n<g class=\"name on\" text-anchor=\"middle\" font-size=\"" ++ (decimal letters
     ++ codes "\">\n")
 
--- the bars of a lane, each of its own
+-- a thin line where each of these bars begins, if there are any
+abbrev pub seams_text : Frame → ℕ → ℕ → List Bar → List ℕ
+seams_text f y high seams =
+    if length seams == 0 then []
+    else codes "<path class=\"seam\" d=\"" ++ (flat_map (bar_cut f y high) seams ++ codes "\"/>\n")
+
+-- a line where each of these boxes begins, and their names
+abbrev pub box_marks_text : Frame → ℕ → ℕ → List (List ℕ) → List Bar → List ℕ
+box_marks_text f y high names boxes = codes "<path class=\"cut\" d=\"" ++ (flat_map (bar_cut f y high) boxes
+    ++ (names_begin (letters_of high) ++ (flat_map (bar_name f y high names) boxes ++ codes "</g>\n")))
+
+-- the bars of a lane as boxes, a thin line where a bar begins in a box, and the lines and names of the boxes
 abbrev pub bars_text : Frame → ℕ → ℕ → List (List ℕ) → List Task → List ℕ → List Bar → List ℕ
 bars_text f y high names tasks colours bars =
-    texts_below (vcpu_paths f y high names tasks colours bars) (length names)
-    ++ (codes "<path class=\"cut\" d=\"" ++ (flat_map (bar_cut f y high) bars
-    ++ (names_begin (letters_of high) ++ (flat_map (bar_name f y high names) bars ++ codes "</g>\n"))))
+    texts_below (vcpu_paths f y high names tasks colours (boxes_of f bars)) (length names)
+    ++ (seams_text f y high (seams_of f bars) ++ box_marks_text f y high names (boxes_of f bars))
 
 -- the ground of a lane
 abbrev pub ground_box : ℕ → ℕ → ℕ → List ℕ

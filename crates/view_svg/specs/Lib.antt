@@ -1,6 +1,8 @@
+pub mod Boxed
 pub mod Columns
 pub mod Frames
 pub mod Inside
+pub mod Joined
 pub mod Keys
 pub mod LanePictures
 pub mod Lanes

@@ -4,10 +4,11 @@ ghost use Rattle.tab_core.specs.declared.TheConstants.{MAX_VCPUS};
 ghost use Rattle.tab_io.specs.Sinks.{Writes};
 ghost use Rattle.tab_words.specs.Texts.{texts_below};
 ghost use Rattle.view_svg.specs.Frames.{letters_of};
-ghost use Rattle.view_svg.specs.Lanes.{bar_box, bar_cut, bar_name, bars_text, box_of, cut_line, is_bar_of, line_in, name_text, names_begin, note_of, path_begin, path_end, titled_path, top_in, vcpu_path, vcpu_paths, way_class, way_word, width_of};
+ghost use Rattle.view_svg.specs.Lanes.{bar_box, bar_cut, bar_name, bars_text, box_marks_text, box_of, cut_line, is_bar_of, line_in, name_text, names_begin, note_of, path_begin, path_end, seams_text, titled_path, top_in, vcpu_path, vcpu_paths, way_class, way_word, width_of};
 
 use crate::gather::put_at_once;
 use crate::holders::holders_of;
+use crate::joined::{boxes_of, seams_of};
 use crate::marks::put_box;
 use crate::paths::{put_path_begin, put_path_end};
 use crate::places::{letters_of, x_at};
@@ -17,7 +18,7 @@ use tab_words::{TextPiece, put_pieces};
 use view_doc::Task;
 use view_lanes::{Bar, Frame, name_at};
 
-// Writes the bars of a lane, each as a box.
+// Writes the bars of a lane, of which there are at most 342, as boxes.
 pub(crate) fn put_bars<K: Sink>(
     sink: &mut K,
     frame: &Frame,
@@ -32,15 +33,16 @@ pub(crate) fn put_bars<K: Sink>(
     requires all { length names.now ≤ MAX_VCPUS }
     requires low { y < 2 ^ 31 }
     requires high { high ≤ 4000 }
+    requires boxes { length bars.now ≤ 342 }
     ensures { Writes (K.state sink.old) (K.state sink.new)
         (bars_text frame.now y high names.now tasks.now colours.now bars.now) result }
 {
-    put_all_paths(sink, frame, y, high, names, tasks, colours, bars)?;
-    write_all(sink, b"<path class=\"cut\" d=\"")?;
-    put_cuts(sink, frame, y, high, bars)?;
-    put_names_begin(sink, high)?;
-    put_names(sink, frame, y, high, names, bars)?;
-    write_all(sink, b"</g>\n")
+    let joined = boxes_of(frame, bars);
+    let boxes = joined.as_slice();
+    put_all_paths(sink, frame, y, high, names, tasks, colours, boxes)?;
+    let seams = seams_of(frame, bars);
+    put_seams(sink, frame, y, high, seams.as_slice())?;
+    put_box_marks(sink, frame, y, high, names, boxes)
 }
 
 // Writes the paths of all vCPUs.
@@ -281,6 +283,45 @@ fn top_in(y: u32, high: u32, shared: bool) -> u32
     ensures below { result ≤ y + high }
 {
     if shared { y + high * 2 / 5 } else { y }
+}
+
+// Writes thin lines where bars begin in a box, if there are such bars.
+fn put_seams<K: Sink>(
+    sink: &mut K,
+    frame: &Frame,
+    y: u32,
+    high: u32,
+    seams: &[Bar],
+) -> Result<(), WriteFault>
+    ensures { Writes (K.state sink.old) (K.state sink.new) (seams_text frame.now y high seams.now) result }
+{
+    if seams.is_empty() {
+        return Ok(());
+    }
+    write_all(sink, b"<path class=\"seam\" d=\"")?;
+    put_cuts(sink, frame, y, high, seams)?;
+    write_all(sink, b"\"/>\n")
+}
+
+// Writes lines where boxes begin, and their names.
+fn put_box_marks<K: Sink>(
+    sink: &mut K,
+    frame: &Frame,
+    y: u32,
+    high: u32,
+    names: &[Name],
+    boxes: &[Bar],
+) -> Result<(), WriteFault>
+    requires low { y < 2 ^ 31 }
+    requires high { high ≤ 4000 }
+    ensures { Writes (K.state sink.old) (K.state sink.new)
+        (box_marks_text frame.now y high names.now boxes.now) result }
+{
+    write_all(sink, b"<path class=\"cut\" d=\"")?;
+    put_cuts(sink, frame, y, high, boxes)?;
+    put_names_begin(sink, high)?;
+    put_names(sink, frame, y, high, names, boxes)?;
+    write_all(sink, b"</g>\n")
 }
 
 // Writes a line where a bar begins, for each that is wide enough.

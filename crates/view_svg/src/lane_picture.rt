@@ -79,7 +79,7 @@ fn put_lane_of<K: Sink>(
     write_all(sink, b"</g>\n")
 }
 
-// Writes the bars of a lane: each as a box, or as columns where they are many.
+// Writes the bars of a lane: as boxes, or as columns where they are many.
 #[tactic(auto, unfolding(crate::specs::LanePictures::lane_body))]
 fn put_body<K: Sink>(
     sink: &mut K,
