@@ -35,8 +35,8 @@ def drawn(name, kind="toml"):
 
 def plan_of(text):
     """The plan text's lines, and each core's segments as (end, owner)."""
-    told = subprocess.run([PROGRAM, "plan"], input=text, capture_output=True, text=True, check=True)
-    lines = told.stdout.splitlines()
+    planned = subprocess.run([PROGRAM, "plan"], input=text, capture_output=True, text=True, check=True)
+    lines = planned.stdout.splitlines()
     rows = []
     for line in lines:
         words = line.split(" ")

@@ -2,7 +2,7 @@
 #   awk -f perf.awk THREADS PERF
 # A line of THREADS is a thread's number and the vCPU that it runs, as `1991 vm.0`.
 
-# the number behind KEY= in a line, or nothing
+# the number after KEY= in a line, or nothing
 function number_of(key, line) {
     if (!match(line, "[ :]" key "=[0-9]+")) return ""
     return substr(line, RSTART + length(key) + 2, RLENGTH - length(key) - 2)
@@ -11,7 +11,7 @@ function number_of(key, line) {
 FNR == NR { vcpu[$1] = $2; next }
 
 {
-    # a time is SECONDS.NS: and the CPU stands before it in brackets; the command before them may have spaces
+    # a time is SECONDS.NS: and the CPU is before it in brackets; the command before them may have spaces
     if (!match($0, / \[[0-9]+\] +[0-9]+\.[0-9]+: /)) next
     where = substr($0, RSTART, RLENGTH)
     split(where, part, /[][ .:]+/)
