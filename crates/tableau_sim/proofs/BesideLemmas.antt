@@ -1,8 +1,8 @@
 -- A run whose changes are planned beside it: what is written of it, and what it leaves.
-use Rattle.std.proofs.Common.{◌≡◌, ℕ, List, [], length, Err, sym, ap, ◌∙◌, subst, inl, inr}
+use Rattle.std.proofs.Common.{◌≡◌, ℕ, List, [], length, Result, Err, sym, ap, ◌∙◌, subst, inl, inr}
 use Rattle.std.proofs.lemmas.List.{length-map}
 use Rattle.tab_core.specs.declared.host.Host.{Host}
-use Rattle.tab_io.specs.Views.{SinkView}
+use Rattle.tab_words.specs.declared.command.RunMode.{RunMode}
 use Rattle.tab_words.specs.declared.command.RunMode.TheVariants.{Live}
 use Rattle.script_doc.specs.declared.event.Event.{Event}
 use Rattle.table_form.specs.Promises.Run.{KeepsPromises}
@@ -16,16 +16,17 @@ use Rattle.trace_report.specs.RunReports.{core_ticks}
 use Rattle.run_live.specs.declared.ran.LiveFault.{LiveFault}
 use Rattle.run_live.specs.declared.ran.LiveFault.TheVariants.{NotBegun, Stopped}
 use Rattle.run_live.specs.LiveRuns.{CannotBePlanned, IsLiveRunOf, IsLiveRunWritable, LeavesView, LiveRanView}
-use Rattle.tableau_sim.specs.declared.status.Status.{Status}
-use Rattle.tableau_sim.specs.Frame.{WritesReply}
-use Rattle.tableau_sim.specs.Inside.Reply.{outcome_in}
-use Rattle.tableau_sim.specs.Inside.Running.{AnswersBy}
+use Rattle.tableau_sim.specs.declared.commands.run.Ready.TheVariants as readied
+use Rattle.tableau_sim.specs.declared.reply.Stop.{Stop}
+use Rattle.tableau_sim.specs.declared.reply.Text.{Text}
+use Rattle.tableau_sim.specs.Inside.Reply.{MakesOnSeat}
+use Rattle.tableau_sim.specs.Inside.Running.{IsReadyOf}
 use Rattle.tableau_sim.specs.Inside.Stops.{live_stop, plan_stop}
 use Rattle.tableau_sim.specs.Outcomes.CallOutcome.{Writes}
 use Rattle.tableau_sim.specs.Replay.{HasScript}
 use Rattle.tableau_sim.specs.Run.{Runs, RunsWhole}
 use Rattle.tableau_sim.specs.Seats.{LeavesRun}
-use Rattle.tableau_sim.proofs.RunLemmas.{answered, lacking}
+use Rattle.tableau_sim.proofs.RunLemmas.{stops_on_seat}
 use Rattle.tableau_sim.proofs.StopsLemmas.{plan_stopped}
 
 module _ (rounds : ℕ) (host : Host) (events : List Event) (view : View) (ran : LiveRanView) (is : IsLiveRunOf rounds host events view ran) where
@@ -70,17 +71,22 @@ module _ (rounds : ℕ) (host : Host) (events : List Event) (view : View) (ran :
 
 -- without a report it didn't begin, or it stopped
 pub left_live : (rounds : ℕ) (old new : View) (sections : List (List ℕ)) (host : Host) (events : List Event)
-    (fault : LiveFault) (sink sink' : SinkView) (told : Status) → HasScript rounds sections host events → old ≡ unstarted
-    → LeavesView rounds host events fault new → WritesReply sink sink' (outcome_in (Err (live_stop fault host))) told
-    → AnswersBy (Runs rounds Live new sections) (LeavesRun rounds Live old new sections) old new sink sink' told
-left_live rounds old new sections host events (NotBegun fault) sink sink' told script first left written =
+    (fault : LiveFault) → HasScript rounds sections host events → old ≡ unstarted → LeavesView rounds host events fault new
+    → MakesOnSeat (Runs rounds Live new sections) (LeavesRun rounds Live old new sections) old new
+    (Err (live_stop fault host))
+left_live rounds old new sections host events (NotBegun fault) script first left =
     let same : new ≡ old = left.0 ∙ sym first in
-    answered (Runs rounds Live new sections) (LeavesRun rounds Live old new sections) old new sink sink' told
-    (Err (plan_stop fault host))
-    (plan_stopped (Runs rounds Live new sections) host fault
+    stops_on_seat (Runs rounds Live new sections) (LeavesRun rounds Live old new sections) old new (plan_stop fault host)
+    same (inl same) (plan_stopped (Runs rounds Live new sections) host fault
     (λ vcpu e. Runs.NoPeriod host events vcpu script (subst (CannotBePlanned host) e left.1))
     (λ vcpu rest over e. Runs.NoRoom host events vcpu rest over script (subst (CannotBePlanned host) e left.1)))
-    same (inl same) written
-left_live rounds old new sections host events Stopped sink sink' told script first left written =
-    lacking (Runs rounds Live new sections) (LeavesRun rounds Live old new sections) old new sink sink' told
-    (inr (record { host = host; events = events; script = script; so_far = left })) written
+left_live rounds old new sections host events Stopped script first left =
+    inr (record { host = host; events = events; script = script; so_far = left })
+
+-- what is made of a run that was planned beside its cores is what `run` makes of the sections
+pub beside_reply : (rounds : ℕ) (mode : RunMode) (old new : View) (sections : List (List ℕ)) (host : Host)
+    (events : List Event) (reply : Result Text Stop) → IsReadyOf rounds mode sections (readied.Beside host events)
+    → MakesOnSeat (Runs rounds Live new sections) (LeavesRun rounds Live old new sections) old new reply
+    → MakesOnSeat (Runs rounds mode new sections) (LeavesRun rounds mode old new sections) old new reply
+beside_reply rounds mode old new sections host events reply is makes =
+    subst (λ m. MakesOnSeat (Runs rounds m new sections) (LeavesRun rounds m old new sections) old new reply) (sym is.0) makes

@@ -6,9 +6,10 @@ ghost use Rattle.tableau_sim.specs.Inside.Reply.{CanBeWritten, IsWritable, bytes
 ghost use Rattle.tableau_sim.specs.Frame.{WritesReply};
 ghost use Rattle.tableau_sim.specs.Outcomes.{CallOutcome, status_of, text_of_outcome};
 
+use crate::commands::prepared::put_run;
 use crate::help::{HELP, VERSION};
 use crate::line::put_line;
-use crate::reply::{Reply, Stop, Text};
+use crate::reply::{RunReply, Stop, Text};
 use crate::status::Status;
 use host_gen::write_host;
 use plan_text::write_plan;
@@ -17,16 +18,16 @@ use tab_core::{Host, Vcpu};
 use tab_io::{Put, Sink, WriteFault, write_all};
 
 // Writes what is due and settles it.
-pub(crate) fn write_reply<K: Sink>(output: &mut K, reply: Reply) -> Status
+pub(crate) fn write_reply<K: Sink>(output: &mut K, reply: RunReply<'_>) -> Status
     requires { CanBeWritten reply }
-    ensures { WritesReply (K.state output.old) (K.state output.new) (outcome_in reply) result }
+    ensures { WritesReply (K.state output.old) (K.state output.new) (outcome_in reply.entry) result }
 {
     let put = put_reply(output, &reply);
     settle(output, put, status_in(reply))
 }
 
 // Settles a text that was put, if that came whole, and says how it ended: done, or with a write fault.
-pub(crate) fn settle<K: Sink>(output: &mut K, put: Result<(), WriteFault>, done: Status) -> Status
+fn settle<K: Sink>(output: &mut K, put: Result<(), WriteFault>, done: Status) -> Status
     ensures { (before : SinkView) (due : CallOutcome) → Writes before (K.state output.old) (text_of_outcome due) put
         → done ≡ status_of due → WritesReply before (K.state output.new) due result }
 {
@@ -39,7 +40,7 @@ pub(crate) fn settle<K: Sink>(output: &mut K, put: Result<(), WriteFault>, done:
     }
 }
 
-fn put_reply<K: Sink>(output: &mut K, reply: &Reply) -> Result<(), WriteFault>
+fn put_reply<K: Sink>(output: &mut K, reply: &RunReply<'_>) -> Result<(), WriteFault>
     requires { CanBeWritten reply.now }
     ensures { Writes (K.state output.old) (K.state output.new)
         (text_of_outcome (outcome_in reply.now)) result }
@@ -52,7 +53,7 @@ fn put_reply<K: Sink>(output: &mut K, reply: &Reply) -> Result<(), WriteFault>
 }
 
 // One row for each text.
-fn put_text<K: Sink>(output: &mut K, text: &Text) -> Result<(), WriteFault>
+fn put_text<K: Sink>(output: &mut K, text: &Text<'_>) -> Result<(), WriteFault>
     requires { IsWritable text.now }
     ensures { Writes (K.state output.old) (K.state output.new) (bytes_of text.now) result }
 {
@@ -63,6 +64,14 @@ fn put_text<K: Sink>(output: &mut K, text: &Text) -> Result<(), WriteFault>
         Text::Checked => write_all(output, b"ok\n"),
         Text::Generated { host } => write_host(output, host),
         Text::Replay { host, book, trace } => write_replay(output, host, book.course(), trace),
+        Text::Run {
+            rounds,
+            mode,
+            prepared,
+            bursts,
+            ran,
+        } => put_run(output, *rounds, *mode, prepared, bursts.answers(), ran),
+        Text::RunBeside { rounds, host, ran } => run_live::write_run(output, host, *rounds, ran),
     }
 }
 
@@ -75,8 +84,8 @@ fn vcpus_in(host: &Option<Host>) -> &[Vcpu]
     }
 }
 
-fn status_in(reply: Reply) -> Status
-    ensures { result ≡ status_of (outcome_in reply) }
+fn status_in(reply: RunReply<'_>) -> Status
+    ensures { result ≡ status_of (outcome_in reply.entry) }
 {
     match reply {
         Ok(_) => Status::Ok,

@@ -1,5 +1,5 @@
 -- What is between reading and writing: the reply to the words.
-use Rattle.std.specs.Prelude.{◌≡◌, ◌≢◌, ℕ, ◌+◌, ◌<◌, ◌≤◌, ◌^◌, true, List, [], codes, length, Option, Some, None, Result, Ok, Err}
+use Rattle.std.specs.Prelude.{◌≡◌, ◌≢◌, ℕ, ◌+◌, ◌<◌, ◌≤◌, ◌^◌, true, List, [], ◌++◌, codes, length, Option, Some, None, Result, Ok, Err}
 use Rattle.std.specs.Io.KnownBytes.{Consumes, IsAtEnd}
 use Rattle.tab_core.specs.declared.host.Host.{Host}
 use Rattle.tab_io.specs.FaultCounts.{Rose}
@@ -8,6 +8,8 @@ use Rattle.tab_words.specs.Commands.{IsGenerable, IsRoundCount}
 use Rattle.tab_words.specs.Sections.{sections_of}
 use Rattle.tab_words.specs.declared.command.Command.{Command}
 use Rattle.tab_words.specs.declared.command.Command.TheVariants as command
+use Rattle.tab_words.specs.declared.command.RunMode.{RunMode}
+use Rattle.tab_words.specs.declared.command.RunMode.TheVariants.{Burst}
 use Rattle.table_form.specs.Tables.Plans.{IsPlanFor}
 use Rattle.table_form.specs.Tables.Views.{plan_view}
 use Rattle.vcpu_names.specs.Names.{names_of}
@@ -15,6 +17,13 @@ use Rattle.plan_text.specs.PlanText.{plan_text}
 use Rattle.host_gen.specs.HostText.{AreAdmitted, host_text}
 use Rattle.replay_text.specs.ReplayText.{replay_text}
 use Rattle.step_machine.specs.Traces.{AreOfCourse}
+use Rattle.round_words.specs.declared.view.View.{View}
+use Rattle.trace_report.specs.ReportText.{report_text}
+use Rattle.burst_bound.specs.ScriptBursts.{bursts_of}
+use Rattle.run_course.specs.RunText.{run_text}
+use Rattle.run_course.specs.Runs.{IsRunWritable, kept_stints}
+use Rattle.run_live.specs.LiveRuns.{IsLiveRunWritable}
+use Rattle.tableau_sim.specs.declared.commands.run.Ready.{Ready}
 use Rattle.tableau_sim.specs.declared.help.TheConstants.{HELP, VERSION}
 use Rattle.tableau_sim.specs.declared.reply.Stop.{Stop}
 use Rattle.tableau_sim.specs.declared.reply.Stop.TheVariants as stop
@@ -23,6 +32,7 @@ use Rattle.tableau_sim.specs.declared.reply.Text.TheVariants as written
 use Rattle.tableau_sim.specs.declared.status.Status.TheVariants as status
 use Rattle.tableau_sim.specs.declared.input.TheConstants.{INPUT_LIMIT}
 use Rattle.tableau_sim.specs.Frame.{Due, IsDue, outcome_of}
+use Rattle.tableau_sim.specs.Inside.Running.{IsReady, head_of}
 use Rattle.tableau_sim.specs.Outcomes.{CallOutcome}
 use Rattle.tableau_sim.specs.Outcomes.CallOutcome.{Refuses, Writes}
 
@@ -35,13 +45,21 @@ bytes_of written.Checked = codes "ok\n"
 bytes_of (written.Generated host) = host_text host
 bytes_of (written.Replay host book trace) =
     replay_text (names_of host.vcpus) book.course trace.made trace.posted
+bytes_of (written.Run rounds mode prepared bursts ran) =
+    head_of prepared.now.seed mode prepared.now.host prepared.now.script bursts.answers
+    ++ run_text mode prepared.now.host prepared.now.changes.items ran.crew.course rounds (kept_stints ran) ran.report
+bytes_of (written.RunBeside rounds host ran) =
+    report_text host ran.changes (length ran.book.course.ticks) rounds ran.report
 
--- a plan in a text is one for its host, a generated host's vCPUs are admitted, and a trace is of the
--- book's course, so that they can be written
+-- a plan in a text is one for its host, a generated host's vCPUs are admitted, a trace is of the book's
+-- course, and a report tells of its host's vCPUs and cores and of its script's bursts, so that they can be written
 abbrev pub IsWritable : Text → Type 0
 IsWritable (written.Plan host plan) = IsPlanFor host (plan_view plan)
 IsWritable (written.Generated host) = AreAdmitted host.vcpus
 IsWritable (written.Replay host book trace) = AreOfCourse book.course trace.made
+IsWritable (written.Run rounds mode prepared bursts ran) = IsRunWritable mode prepared.now.host ran
+    × (mode ≡ Burst → length bursts.answers ≡ length (bursts_of prepared.now.script))
+IsWritable (written.RunBeside rounds host ran) = IsLiveRunWritable host ran
 IsWritable text = Unit {0}
 
 -- the names that a refusal may need
@@ -54,6 +72,13 @@ abbrev pub Makes : (CallOutcome → Type 0) → Result Text Stop → Type 0
 Makes P (Ok text) = P (Writes (bytes_of text)) × IsWritable text
 Makes P (Err (stop.Refused refusal host)) = P (Refuses refusal (names_in host))
 Makes P (Err stop.NoMemory) = Unit {0}
+
+-- the reply of a run is an outcome of which P holds, and leaves the seat's view as it was if that is a refusal; or
+-- memory ran out, which leaves Q
+abbrev pub MakesOnSeat : (CallOutcome → Type 0) → Type 0 → View → View → Result Text Stop → Type 0
+MakesOnSeat P Q old new (Ok text) = P (Writes (bytes_of text)) × IsWritable text
+MakesOnSeat P Q old new (Err (stop.Refused refusal host)) = P (Refuses refusal (names_in host)) × (new ≡ old)
+MakesOnSeat P Q old new (Err stop.NoMemory) = Q
 
 -- the outcome that a reply stands for
 abbrev pub outcome_in : Result Text Stop → CallOutcome
@@ -82,6 +107,12 @@ pub record HasInput (old new : SourceView) (input : List ℕ) : Type 0 where
   pub later : old.faults ≤ new.faults
   pub short : length input ≤ INPUT_LIMIT
   pub ended : IsAtEnd new.rest
+
+-- all is ready for a run of the whole input
+pub record IsReadyTo (rounds : ℕ) (mode : RunMode) (old new : SourceView) (made : Ready) : Type 0 where
+  pub input : List ℕ
+  pub has : HasInput old new input
+  pub is : IsReady rounds mode input made
 
 -- after these bytes the source failed, or it gave too many of them, or memory ran out
 pub data HasNoInput (old new : SourceView) (input : List ℕ) : Stop → Type 0 where

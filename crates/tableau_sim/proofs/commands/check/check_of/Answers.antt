@@ -46,8 +46,8 @@ returns-in-None c =
       tt {0},
     )
 
-pub returns-in-Some : goal.returns-in-Some
-returns-in-Some c =
+pub returns : goal.returns
+returns c =
     let tasked : HasTasks c.args.sections.now c.in-Ok.host c.in-Ok-tasks_of.tasks =
     record { is_host = rw c.part.ensures at c.in-Ok.ensures.ok; are_tasks = c.in-Ok-tasks_of.ensures.ok } in
     let tables : HasTables c.args.sections.now c.in-Ok.host c.in-Ok-tasks_of.tasks c.in-Ok-read_plan.raw =

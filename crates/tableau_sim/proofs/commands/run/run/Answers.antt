@@ -1,18 +1,85 @@
-use Rattle.std.proofs.Common.{Err, refl}
-use Rattle.tab_words.specs.declared.command.Command.TheVariants as called
-use Rattle.tableau_sim.specs.Seats.{LeavesSeat, OnSeat}
-use Rattle.tableau_sim.proofs.ReplyLemmas.{answers_of, input_still, no_input_reply}
-use Rattle.tableau_sim.proofs.SeatsLemmas.{seat_left}
+use Rattle.std.proofs.Common.{Err, ◌≡◌, subst}
+use Rattle.tab_words.specs.declared.command.RunMode.TheVariants.{Live}
+use Rattle.tab_words.specs.Sections.{sections_of}
+use Rattle.tableau_sim.specs.Inside.Reply.{IsReadyTo}
+use Rattle.tableau_sim.specs.Inside.Running.{RunsPrepared}
+use Rattle.tableau_sim.specs.Run.{Runs}
+use Rattle.tableau_sim.specs.Seats.{LeavesRun, LeavesSeat, OnSeat}
+use Rattle.tableau_sim.specs.declared.commands.run.Ready.TheVariants as readied
+use Rattle.tableau_sim.proofs.BesideLemmas.{beside_reply}
+use Rattle.tableau_sim.proofs.ReplyLemmas.{answers_of}
+use Rattle.tableau_sim.proofs.RunLemmas.{can_be_written, prepared_reply, run_reply}
 use Rattle.tableau_sim.proofs.commands.run.run.Goals as goal
+
+pub run_prepared-seat-requires-clause-prepared : goal.run_prepared-seat-requires-clause-prepared
+run_prepared-seat-requires-clause-prepared g c = λ lifetimes outlive.
+    let arm = c.in-Ok-Prepared in
+    let ready : IsReadyTo c.args.rounds c.args.mode _ _ (readied.Prepared arm.prepared) =
+    subst (IsReadyTo c.args.rounds c.args.mode _ _) arm.field-0-is arm.ensures.ok in
+    ready.is.of.0
+
+pub write_reply-requires : goal.write_reply-requires
+write_reply-requires g c =
+    let run = c.in-Ok-Prepared.prepared in
+    let old = c.args.seat.view in
+    let new = c.run_prepared-seat.result.0.view in
+    can_be_written (RunsPrepared c.args.rounds c.args.mode run.seed run.host run.script run.book new) (new ≡ old) old new
+    c.run_prepared-seat.result.1 c.run_prepared-seat.ensures.makes
+
+pub returns-in-Ok-Prepared-clause-answers : goal.returns-in-Ok-Prepared-clause-answers
+returns-in-Ok-Prepared-clause-answers g c = λ words are.
+    let arm = c.in-Ok-Prepared in
+    let ready : IsReadyTo c.args.rounds c.args.mode _ _ (readied.Prepared arm.prepared) =
+    subst (IsReadyTo c.args.rounds c.args.mode _ _) arm.field-0-is arm.ensures.ok in
+    let old = c.args.seat.view in
+    let new = c.run_prepared-seat.result.0.view in
+    let reply = c.run_prepared-seat.result.1 in
+    answers_of (OnSeat old new) (LeavesSeat old new) words _ _ _ _ c.write_reply.result reply
+    (run_reply c.args.rounds c.args.mode old new words _ _ ready.input reply are ready.has ready.is.two
+    (prepared_reply c.args.rounds c.args.mode old new (sections_of ready.input) arm.prepared reply ready.is.of
+    c.run_prepared-seat.ensures.makes)) c.write_reply.ensures
+
+pub run_beside-seat-requires-clause-within : goal.run_beside-seat-requires-clause-within
+run_beside-seat-requires-clause-within g c = λ lifetimes outlive.
+    let arm = c.in-Ok-Beside in
+    let ready : IsReadyTo c.args.rounds c.args.mode _ _ (readied.Beside arm.host arm.script) =
+    subst (IsReadyTo c.args.rounds c.args.mode _ _) arm.field-0-is arm.ensures.ok in
+    ready.is.of.1
+
+pub run_beside-seat-requires-clause-in_run : goal.run_beside-seat-requires-clause-in_run
+run_beside-seat-requires-clause-in_run g c = λ lifetimes outlive.
+    let arm = c.in-Ok-Beside in
+    let ready : IsReadyTo c.args.rounds c.args.mode _ _ (readied.Beside arm.host arm.script) =
+    subst (IsReadyTo c.args.rounds c.args.mode _ _) arm.field-0-is arm.ensures.ok in
+    ready.is.of.2
+
+pub write_reply-requires-in-Ok-Beside : goal.write_reply-requires-in-Ok-Beside
+write_reply-requires-in-Ok-Beside g c =
+    let arm = c.in-Ok-Beside in
+    let ready : IsReadyTo c.args.rounds c.args.mode _ _ (readied.Beside arm.host arm.script) =
+    subst (IsReadyTo c.args.rounds c.args.mode _ _) arm.field-0-is arm.ensures.ok in
+    let sections = sections_of ready.input in
+    let old = c.args.seat.view in
+    let new = c.run_beside-seat.result.0.view in
+    can_be_written (Runs c.args.rounds Live new sections) (LeavesRun c.args.rounds Live old new sections) old new
+    c.run_beside-seat.result.1 (c.run_beside-seat.ensures.makes sections ready.is.of.3)
+
+pub returns-in-Ok-Beside-clause-answers : goal.returns-in-Ok-Beside-clause-answers
+returns-in-Ok-Beside-clause-answers g c = λ words are.
+    let arm = c.in-Ok-Beside in
+    let ready : IsReadyTo c.args.rounds c.args.mode _ _ (readied.Beside arm.host arm.script) =
+    subst (IsReadyTo c.args.rounds c.args.mode _ _) arm.field-0-is arm.ensures.ok in
+    let sections = sections_of ready.input in
+    let old = c.args.seat.view in
+    let new = c.run_beside-seat.result.0.view in
+    let reply = c.run_beside-seat.result.1 in
+    answers_of (OnSeat old new) (LeavesSeat old new) words _ _ _ _ c.write_reply-in-Ok-Beside.result reply
+    (run_reply c.args.rounds c.args.mode old new words _ _ ready.input reply are ready.has ready.is.two
+    (beside_reply c.args.rounds c.args.mode old new sections arm.host arm.script reply ready.is.of
+    (c.run_beside-seat.ensures.makes sections ready.is.of.3))) c.write_reply-in-Ok-Beside.ensures
 
 pub returns-in-Err-clause-answers : goal.returns-in-Err-clause-answers
 returns-in-Err-clause-answers g c = λ words are.
     let view = c.args.seat.view in
-    answers_of (OnSeat view view) (LeavesSeat view view) words _ _ _ _ c.write_reply.result (Err c.in-Err.stop)
-    (no_input_reply (OnSeat view view) (LeavesSeat view view) words _ _ (called.Run c.args.rounds c.args.mode) c.in-Err.stop
-    are refl (λ due part. seat_left view view due part refl) c.in-Err.ensures.stop) c.write_reply.ensures
-
-pub returns-clause-answers : goal.returns-clause-answers
-returns-clause-answers g c = λ words are.
-    c.run_input-done.ensures.answers words (g.S.Source.state c.args.input.now) _ are
-    (input_still _ _ _ _ _ c.take_back.ensures.same c.deref.ensures.value c.in-Ok.ensures.ok)
+    answers_of (OnSeat view view) (LeavesSeat view view) words _ _ _ _ c.write_reply-in-Err.result (Err c.in-Err.stop)
+    (c.in-Err.ensures.stop words view are) c.write_reply-in-Err.ensures

@@ -1,7 +1,7 @@
 use Rattle.std.proofs.Common.{ap}
 use Rattle.run_course.specs.Runs.{keeps_stints}
 use Rattle.tableau_sim.proofs.RunLemmas.{room_for}
-use Rattle.tableau_sim.proofs.commands.run.tell_bursts.Goals as goal
+use Rattle.tableau_sim.proofs.commands.prepared.tell_bursts.Goals as goal
 
 pub fill-requires-clause-kept : goal.fill-requires-clause-kept
 fill-requires-clause-kept c =

@@ -1,6 +1,6 @@
 use Rattle.std.proofs.Common.{ap, Err, arith, ◌∙◌}
 use Rattle.host_gen.proofs.BoundLemmas.{has_periods, has_room}
-use Rattle.tableau_sim.proofs.commands.selftest.test_host.Goals as goal
+use Rattle.tableau_sim.proofs.commands.selftest.prepare_test.Goals as goal
 
 pub unreachable-requires : goal.unreachable-requires
 unreachable-requires c =

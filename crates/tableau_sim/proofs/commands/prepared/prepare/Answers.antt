@@ -1,24 +1,22 @@
-use Rattle.std.proofs.Common.{List, Err, refl, ap, subst, sym, ◌∙◌, arith}
+use Rattle.std.proofs.Common.{List, Err, ap, subst, sym, ◌∙◌, arith}
 use Rattle.run_course.specs.Changes.{changes_of}
 use Rattle.script_doc.specs.declared.event.Event.{Event}
 use Rattle.tableau_sim.specs.Inside.Reply.{Makes}
 use Rattle.tableau_sim.specs.Run.{Runs}
 use Rattle.tableau_sim.specs.declared.reply.Stop.{Stop}
 use Rattle.tableau_sim.proofs.StopsLemmas.{plan_stopped}
-use Rattle.tableau_sim.proofs.commands.run.prepare.Goals as goal
+use Rattle.tableau_sim.proofs.commands.prepared.prepare.Goals as goal
 
 pub returns-in-Err-clause-stop : goal.returns-in-Err-clause-stop
-returns-in-Err-clause-stop c = λ view sections script.
-    subst (λ (why : Stop). Makes (Runs c.args.rounds c.args.mode view sections) (Err why)) (sym c.stop_of_plan.ensures)
-    (plan_stopped (Runs c.args.rounds c.args.mode view sections) c.args.host c.in-Err.fault
+returns-in-Err-clause-stop c = λ mode view sections script.
+    subst (λ (why : Stop). Makes (Runs c.args.rounds mode view sections) (Err why)) (sym c.stop_of_plan.ensures)
+    (plan_stopped (Runs c.args.rounds mode view sections) c.args.host c.in-Err.fault
     (λ vcpu e. Runs.NoPeriod c.args.host c.args.script vcpu script (c.in-Err.ensures.no_period vcpu (ap Err e)))
     (λ vcpu rest over e. Runs.NoRoom c.args.host c.args.script vcpu rest over script
     (c.in-Err.ensures.no_room vcpu rest over (ap Err e))))
 
 pub returns-clause-prepared : goal.returns-clause-prepared
 returns-clause-prepared c = record {
-  host_is = refl;
-  script_is = refl;
   book = c.in-Ok.ensures.ok;
   vcpus = sym (c.in-Ok.ensures.vcpus 0 (omega arith));
   fits = c.in-Ok.ensures.rounds c.args.rounds c.requires.some c.requires.few c.requires.in_run;
