@@ -1,47 +1,23 @@
 //! The program `tableau-tools`: it shows what `tableau` wrote.
 //!
-//! Each command has a file. What it reads is a text, and what it writes is a definition's text of the
-//! view that was read: `view_doc` has the reader, `view_table`, `view_chart`, `view_text`, `view_page` and `view_export` the
-//! texts. Of a trace of another host `host_judge` and `view_trace` have the readers, and `view_judge` the texts; of the
-//! report of a run `view_report` has both.
+//! `command` has the words, and `words` makes of those that were met what a command takes. The commands are in crates of
+//! their own: `tool_views` shows what `tableau` wrote, `tool_hosts` has those about hosts, and `tool_input` what they share.
 #![tactic(auto)]
 
-mod chart;
 mod command;
-mod diff;
-mod documents;
-mod earlier;
-mod enough;
-mod export;
-mod fault;
-mod fit;
-mod fleet;
-mod form;
-mod host;
-mod input;
-mod judge;
-mod lines;
-mod map;
-mod mistaken;
-mod output;
-mod place;
-mod plan;
-mod planned;
-mod ran;
-mod report;
-mod sections;
-mod shown;
-mod table;
-mod trace;
-mod unkept;
-mod vms;
+mod words;
 
 use clap::error::ErrorKind;
 use clap::{ArgMatches, Error};
-use fault::Fault;
 use program_words::is_closed_pipe;
 use std::io;
 use std::process::ExitCode;
+use tool_hosts::{fit, host, judge, place_vms, sections};
+use tool_input::Fault;
+use tool_views::{chart, diff, report, table};
+use words::{
+    chart_words, diff_words, export, form_words, judge_words, place_words, size_words, table_words,
+};
 
 // The status of `diff` and of `judge` for a fault, since their 1 says that the plans differ, or that a promise was broken.
 const NO_ANSWER: u8 = 2;
@@ -118,19 +94,25 @@ fn told(rt: &HostRuntime, error: &Error, status: u8) -> Result<u8, Fault> {
 // Does the command that was met, and gives its status.
 fn dispatch(rt: &HostRuntime, matches: &ArgMatches<'_>) -> Result<u8, Fault> {
     match matches.subcommand() {
-        Some(("chart", matches)) => chart::chart(rt, matches)?,
-        Some(("export", matches)) => export::export(rt, matches)?,
-        Some(("table", matches)) => table::table(rt, matches)?,
-        Some(("report", matches)) => report::report(rt, matches)?,
-        Some(("sections", matches)) => sections::sections(rt, matches)?,
-        Some(("host", matches)) => host::host(rt, matches)?,
-        Some(("fit", matches)) => return Ok(status_of(fit::fit(rt, matches)?)),
-        Some(("place", matches)) => return Ok(status_of(place::place_vms(rt, matches)?)),
-        Some(("diff", matches)) => return Ok(u8::from(diff::diff(rt, matches)?)),
-        Some(("judge", matches)) => return Ok(u8::from(!judge::judge(rt, matches)?)),
+        Some(("chart", matches)) => chart(rt, &chart_words(matches))?,
+        Some(("export", matches)) => export(rt, matches)?,
+        Some(("table", matches)) => table(rt, &table_words(matches, form_words(matches)?))?,
+        Some(("report", matches)) => report(rt, matches.get_str("FILE"), matches.get_str("old"))?,
+        Some(("sections", matches)) => sections(rt, matches.get_strs("FILE").unwrap_or_default())?,
+        Some(("host", matches)) => host(rt, &size_words(matches))?,
+        Some(("fit", matches)) => return Ok(status_of(fit(rt, &size_words(matches))?)),
+        Some(("place", matches)) => return Ok(status_of(place_vms(rt, &place_words(matches))?)),
+        Some(("diff", matches)) => return differs(rt, matches),
+        Some(("judge", matches)) => return Ok(u8::from(!judge(rt, &judge_words(matches))?)),
         _ => {}
     }
     Ok(0)
+}
+
+// Does `diff`, and gives its status: 1 where the plans differ.
+fn differs(rt: &HostRuntime, matches: &ArgMatches<'_>) -> Result<u8, Fault> {
+    let form = form_words(matches)?;
+    Ok(u8::from(diff(rt, &diff_words(matches, form))?))
 }
 
 // The status of `fit` and `place` by what they answer.

@@ -1,6 +1,0 @@
-use Rattle.std.proofs.Common.{◌≡◌, length}
-use Rattle.tableau_tools.proofs.fleet.alike.Given as goal
-
--- the hosts so far
-abbrev pub invariant-loop : goal.invariant-loop
-invariant-loop l = length l.hosts.items ≡ l.counter

@@ -1,0 +1,120 @@
+//! Each command as its words say it: the words that clap met become the values that the crates of the commands take.
+
+use clap::ArgMatches;
+use tool_hosts::{JudgeWords, LineForm, LineWords, PlaceWords, SizeWords, export_lines};
+use tool_input::Fault;
+use tool_views::{
+    ChartWords, DiffWords, ExportWords, Form, Format, TableWords, export_view, form_of,
+};
+
+/// The words of `chart`.
+pub(crate) fn chart_words<'w>(matches: &'w ArgMatches<'_>) -> ChartWords<'w> {
+    ChartWords {
+        file: matches.get_str("FILE"),
+        is_text: matches.get_flag("text"),
+        by_vcpu: matches.get_str("by") == Some("vcpu"),
+        cores: matches.get_str("cores"),
+        vcpus: matches.get_str("vcpus"),
+        from: matches.get_one::<u32>("from"),
+        to: matches.get_one::<u32>("to"),
+        width: matches.get_one::<u32>("width"),
+        tick_ns: matches.get_one::<u32>("tick"),
+    }
+}
+
+/// The form that the words of `table` and of `diff` ask for.
+pub(crate) fn form_words(matches: &ArgMatches<'_>) -> Result<Form, Fault> {
+    form_of(
+        matches.get_str("by") == Some("vm"),
+        matches.get_flag("json"),
+        matches.get_flag("csv"),
+    )
+}
+
+/// The words of `table`.
+pub(crate) fn table_words<'w>(matches: &'w ArgMatches<'_>, form: Form) -> TableWords<'w> {
+    TableWords {
+        form,
+        file: matches.get_str("FILE"),
+        tick_ns: matches.get_one::<u32>("tick"),
+    }
+}
+
+/// The words of `diff`.
+pub(crate) fn diff_words<'w>(matches: &'w ArgMatches<'_>, form: Form) -> DiffWords<'w> {
+    DiffWords {
+        form,
+        old: matches.get_str("OLD"),
+        new: matches.get_str("NEW"),
+        tick_ns: matches.get_one::<u32>("tick"),
+    }
+}
+
+/// Does `export`, in the format that the words name.
+pub(crate) fn export(rt: &HostRuntime, matches: &ArgMatches<'_>) -> Result<(), Fault> {
+    match matches.get_str("FORMAT") {
+        Some("rtds") => export_lines(rt, &line_words(matches, LineForm::Rtds)),
+        Some("deadline") if matches.get_flag("full") => {
+            export_lines(rt, &line_words(matches, LineForm::FullDeadline))
+        }
+        Some("deadline") => export_lines(rt, &line_words(matches, LineForm::Deadline)),
+        Some("cgroup") => export_lines(rt, &line_words(matches, LineForm::Cgroup)),
+        Some("libvirt") => export_lines(rt, &line_words(matches, LineForm::Libvirt)),
+        Some("chrome") => export_view(rt, &export_words(matches, Format::Chrome)),
+        Some("json") => export_view(rt, &export_words(matches, Format::Json)),
+        _ => export_view(rt, &export_words(matches, Format::Csv)),
+    }
+}
+
+// The words of `export` for a scheduler.
+fn line_words<'w>(matches: &'w ArgMatches<'_>, form: LineForm) -> LineWords<'w> {
+    LineWords {
+        form,
+        file: matches.get_str("FILE"),
+        map: matches.get_str("map"),
+        first_cpu: matches.get_one::<u32>("first-cpu"),
+    }
+}
+
+// The words of `export` for other programs.
+fn export_words<'w>(matches: &'w ArgMatches<'_>, format: Format) -> ExportWords<'w> {
+    ExportWords {
+        format,
+        file: matches.get_str("FILE"),
+        tick_ns: matches.get_one::<u32>("tick"),
+    }
+}
+
+/// The words of `judge`.
+pub(crate) fn judge_words<'w>(matches: &'w ArgMatches<'_>) -> JudgeWords<'w> {
+    JudgeWords {
+        host: matches.get_str("HOST"),
+        trace: matches.get_str("TRACE"),
+        window_ms: matches.get_one::<u32>("window"),
+        is_json: matches.get_flag("json"),
+    }
+}
+
+/// The words of `host` and of `fit`.
+pub(crate) fn size_words<'w, 'm: 'w>(matches: &'w ArgMatches<'m>) -> SizeWords<'w> {
+    SizeWords {
+        cores: matches.get_one::<u32>("cores"),
+        tick_ns: matches.get_one::<u32>("tick"),
+        sizes: matches.get_strs("SIZE"),
+    }
+}
+
+/// The words of `place`.
+pub(crate) fn place_words<'w, 'm: 'w>(matches: &'w ArgMatches<'m>) -> PlaceWords<'w> {
+    PlaceWords {
+        hosts: matches.get_one::<u32>("hosts"),
+        cores: matches.get_one::<u32>("cores"),
+        kinds: matches.get_str("kinds"),
+        stay: matches.get_str("stay"),
+        host: matches.get_one::<u32>("host"),
+        documents: matches.get_flag("documents"),
+        summary: matches.get_flag("summary"),
+        tick_ns: matches.get_one::<u32>("tick"),
+        sizes: matches.get_strs("SIZE"),
+    }
+}

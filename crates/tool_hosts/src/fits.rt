@@ -1,0 +1,53 @@
+ghost use Rattle.std.specs.Prelude.{◌≤◌, length};
+ghost use Rattle.tab_core.specs.declared.TheConstants.{MAX_CORES};
+
+use crate::hosts::{SizeWords, host_fault, text_of};
+use plan_make::PlanFault;
+use size_fit::{Fit, fit_sizes, write_fit, write_refusal};
+use sizes_doc::{host_of_sizes, read_sizes};
+use tab_core::{Host, MAX_CORES, MAX_TICK_NS, MIN_TICK_NS, TICK_NS};
+use tool_input::{Fault, finish, output_of};
+
+/// Does `fit`: it writes how VMs of sizes fit a host and how many more of each size would, or why they don't fit. It
+/// answers whether they do.
+pub fn fit(rt: &HostRuntime, words: &SizeWords<'_>) -> Result<bool, Fault> {
+    // (the words were refused where the cores or the tick are out of their range)
+    let cores = words.cores.unwrap_or(1).clamp(1, MAX_CORES);
+    let tick_ns = words
+        .tick_ns
+        .unwrap_or(TICK_NS)
+        .clamp(MIN_TICK_NS, MAX_TICK_NS);
+    let text = text_of(rt, words.sizes)?;
+    let sizes = match read_sizes(rt.alloc(), &text) {
+        Ok(sizes) => sizes,
+        Err(fault) => return Err(Fault::from(fault)),
+    };
+    let host = match host_of_sizes(rt.alloc(), cores, tick_ns, sizes.as_slice()) {
+        Ok(host) => host,
+        Err(fault) => return Err(host_fault(rt.alloc(), sizes.as_slice(), fault)),
+    };
+    match fit_sizes(rt.alloc(), &host, sizes.as_slice()) {
+        Ok(fit) => put_fit(rt, &host, &fit),
+        Err(PlanFault::NoMemory) => Err(Fault::NoMemory),
+        Err(fault) => put_refusal(rt, &host, &fault),
+    }
+}
+
+// Writes how the VMs fit the host.
+fn put_fit(rt: &HostRuntime, host: &Host, fit: &Fit<'_>) -> Result<bool, Fault>
+    requires few { length fit.now.loads.items ≤ MAX_CORES }
+    requires some { 1 ≤ length fit.now.loads.items }
+{
+    let mut sink = output_of(rt)?;
+    write_fit(&mut sink, host.vcpus.items().len() as u32, host.cores, fit)?;
+    finish(&mut sink)?;
+    Ok(true)
+}
+
+// Writes why they don't.
+fn put_refusal(rt: &HostRuntime, host: &Host, fault: &PlanFault) -> Result<bool, Fault> {
+    let mut sink = output_of(rt)?;
+    write_refusal(&mut sink, host.vcpus.items(), fault)?;
+    finish(&mut sink)?;
+    Ok(false)
+}

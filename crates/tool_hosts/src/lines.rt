@@ -1,0 +1,112 @@
+ghost use Rattle.std.specs.Prelude.{◌≤◌, length};
+ghost use Rattle.tab_core.specs.declared.TheConstants.{MAX_VCPUS};
+
+use crate::map::{rename, renamed, renamings_of};
+use tab_core::Vcpu;
+use tab_io::{Sink, WriteFault};
+use tab_words::cut_sections;
+use tool_input::{Fault, Input, Refusal, finish, host_of, input_beside, output_of, plan_of};
+use view_doc::View;
+use view_schedulers::{
+    Scheduler, Unkept, unkept_of, unlike_of, write_cgroup, write_deadline, write_libvirt,
+    write_rtds,
+};
+
+/// What the lines are for.
+#[derive(Clone, Copy)]
+pub enum LineForm {
+    /// Xen's RTDS.
+    Rtds,
+    /// Linux's deadline tasks.
+    Deadline,
+    /// Linux's deadline tasks, which are given whole cores.
+    FullDeadline,
+    /// Linux's cgroups.
+    Cgroup,
+    /// libvirt.
+    Libvirt,
+}
+
+impl LineForm {
+    // The scheduler that carries the lines out.
+    fn scheduler(self) -> Scheduler {
+        match self {
+            LineForm::Rtds => Scheduler::Rtds,
+            LineForm::Deadline => Scheduler::Deadline,
+            LineForm::FullDeadline => Scheduler::FullDeadline,
+            LineForm::Cgroup | LineForm::Libvirt => Scheduler::Quota,
+        }
+    }
+}
+
+/// What the words of `export` say, where they name a scheduler.
+#[derive(Clone, Copy)]
+pub struct LineWords<'w> {
+    /// What the lines are for.
+    pub form: LineForm,
+    /// The file to read; standard input where there is none.
+    pub file: Option<&'w str>,
+    /// The file that gives vCPUs other names.
+    pub map: Option<&'w str>,
+    /// The CPU that core 0 is.
+    pub first_cpu: Option<u32>,
+}
+
+/// Does `export` for a scheduler: it reads a host and its plan, and writes the lines that put the plan's vCPUs there, by
+/// the names that a map gives them where one is named.
+pub fn export_lines(rt: &HostRuntime, words: &LineWords<'_>) -> Result<(), Fault> {
+    let (form, map) = (words.form, words.map);
+    let Input { place, bytes } = input_beside(rt, words.file, map)?;
+    let sections = cut_sections(&bytes);
+    if sections.count() != 2 {
+        return Err(Fault::NoHost {
+            place,
+            count: sections.count(),
+        });
+    }
+    let host = host_of(rt.alloc(), &place, sections.part(0))?;
+    let mut view = plan_of(rt.alloc(), &place, sections.part(1))?;
+    let renamings = renamings_of(rt, map)?;
+    rename(rt.alloc(), &renamings, &mut view.names)?;
+    let vcpus = renamed(rt.alloc(), &renamings, host.vcpus.items())?;
+    if let Some(fault) = refused(form, host.tick_ns, &vcpus, &view) {
+        let fault = Refusal::of(rt.alloc(), &fault, &view)?;
+        return Err(Fault::Unkept { place, fault });
+    }
+    let first_cpu = words.first_cpu.unwrap_or(0);
+    let mut sink = output_of(rt)?;
+    put_lines(&mut sink, form, first_cpu, host.tick_ns, &vcpus, &view)?;
+    finish(&mut sink)
+}
+
+// Why the plan isn't put there, if it isn't.
+fn refused(form: LineForm, tick_ns: u32, vcpus: &[Vcpu], view: &View) -> Option<Unkept>
+    requires { length view.now.tasks.items ≤ MAX_VCPUS }
+{
+    if let Some(fault) = unkept_of(form.scheduler(), tick_ns, vcpus, view) {
+        return Some(fault);
+    }
+    match form {
+        LineForm::Libvirt => unlike_of(tick_ns, view),
+        LineForm::Rtds | LineForm::Deadline | LineForm::FullDeadline | LineForm::Cgroup => None,
+    }
+}
+
+// Writes the lines.
+fn put_lines<K: Sink>(
+    sink: &mut K,
+    form: LineForm,
+    first_cpu: u32,
+    tick_ns: u32,
+    vcpus: &[Vcpu],
+    view: &View,
+) -> Result<(), WriteFault> {
+    match form {
+        LineForm::Rtds => write_rtds(sink, first_cpu, tick_ns, vcpus, view),
+        LineForm::Deadline | LineForm::FullDeadline => {
+            write_deadline(sink, form.scheduler(), first_cpu, tick_ns, view)
+        }
+        LineForm::Cgroup => write_cgroup(sink, first_cpu, tick_ns, view),
+        LineForm::Libvirt => write_libvirt(sink, first_cpu, tick_ns, view),
+    }
+}

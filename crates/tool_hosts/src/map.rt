@@ -1,0 +1,131 @@
+use std::alloc::Global;
+use std::collections::BTreeSet;
+use tab_core::{Name, Vcpu};
+use tab_words::{Lines, Words, read_number};
+use tool_input::{Fault, Input, input_of, shown};
+
+/// The name of a vCPU, and the name that it has for the scheduler of a host.
+#[derive(Drop)]
+pub(crate) struct Renaming {
+    from: Name,
+    to: Name,
+}
+
+/// The lines `NAME GUEST N` of a map, of which each names vCPU N of a guest. A line without words and one that begins with
+/// `#` are passed over. There are none where no map is named.
+pub(crate) fn renamings_of(rt: &HostRuntime, path: Option<&str>) -> Result<Vec<Renaming>, Fault> {
+    let mut renamings = Vec::new(rt.alloc());
+    let Some(path) = path else {
+        return Ok(renamings);
+    };
+    let Input { place, bytes } = input_of(rt, Some(path))?;
+    let mut number = 0u32;
+    for line in Lines::over(&bytes) {
+        number = number.saturating_add(1);
+        if line.starts_with(b"#") || Words::of(line).next().is_none() {
+            continue;
+        }
+        match renaming_of(rt.alloc(), line)? {
+            Some(renaming) if !is_renamed(&renamings, renaming.from.bytes()) => {
+                renamings.push(renaming)?;
+            }
+            _ => {
+                return Err(Fault::BadMapLine {
+                    place,
+                    line: number,
+                    text: shown(rt.alloc(), line)?,
+                });
+            }
+        }
+    }
+    Ok(renamings)
+}
+
+// What a line says, if it is one of a map.
+fn renaming_of(alloc: Global, line: &[u8]) -> Result<Option<Renaming>, Fault> {
+    let mut words = Words::of(line);
+    let (Some(from), Some(guest), Some(number), None) = (
+        words.next(),
+        words.next(),
+        words.next(),
+        words.next(),
+    ) else {
+        return Ok(None);
+    };
+    if read_number(number).is_none() {
+        return Ok(None);
+    }
+    let mut to = guest.to_vec(alloc)?;
+    to.push(b'.')?;
+    to.extend_from_slice(number)?;
+    if !Name::has_form(from) || !Name::has_form(&to) {
+        return Ok(None);
+    }
+    Ok(Some(Renaming {
+        from: name_of(alloc, from)?,
+        to: name_of(alloc, &to)?,
+    }))
+}
+
+// The bytes, which have the form of a name, as one.
+fn name_of(alloc: Global, bytes: &[u8]) -> Result<Name, Fault> {
+    match Name::of(alloc, bytes) {
+        Ok(name) => Ok(name),
+        Err(_) => Err(Fault::NoMemory),
+    }
+}
+
+fn is_renamed(renamings: &[Renaming], name: &[u8]) -> bool {
+    renamings
+        .iter()
+        .any(|renaming| renaming.from.bytes() == name)
+}
+
+// The name that a vCPU has for the scheduler.
+fn name_for(alloc: Global, renamings: &[Renaming], name: &[u8]) -> Result<Name, Fault> {
+    for renaming in renamings {
+        if renaming.from.bytes() == name {
+            return name_of(alloc, renaming.to.bytes());
+        }
+    }
+    name_of(alloc, name)
+}
+
+/// Gives vCPUs the names that they have for the scheduler, of which no two may be one.
+pub(crate) fn rename(
+    alloc: Global,
+    renamings: &[Renaming],
+    names: &mut Vec<Name>,
+) -> Result<(), Fault> {
+    for at in 0..names.len() {
+        let name = name_for(alloc, renamings, names[at].bytes())?;
+        names[at] = name;
+    }
+    let mut found = BTreeSet::new(alloc);
+    for name in names.iter() {
+        if !found.insert(name.bytes())? {
+            return Err(Fault::SameGuest {
+                name: shown(alloc, name.bytes())?,
+            });
+        }
+    }
+    Ok(())
+}
+
+/// The vCPUs of a host by the names that they have for the scheduler.
+pub(crate) fn renamed(
+    alloc: Global,
+    renamings: &[Renaming],
+    vcpus: &[Vcpu],
+) -> Result<Vec<Vcpu>, Fault> {
+    let mut all = Vec::new(alloc);
+    for vcpu in vcpus {
+        all.push(Vcpu {
+            name: name_for(alloc, renamings, vcpu.name.bytes())?,
+            reservation: vcpu.reservation,
+            runnable: vcpu.runnable,
+            capped: vcpu.capped,
+        })?;
+    }
+    Ok(all)
+}

@@ -1,0 +1,223 @@
+ghost use Rattle.std.specs.Prelude.{◌≡◌, ◌<◌, ◌≤◌, ◌^◌, IfOk, length};
+ghost use Rattle.tab_core.specs.declared.TheConstants.{MAX_TICK_NS, MIN_TICK_NS};
+ghost use Rattle.tool_hosts.specs.declared.fleet.TheConstants.{MAX_HOSTS};
+ghost use Rattle.tool_hosts.specs.declared.vms.TheConstants.{MAX_VMS};
+
+use crate::documents::put_documents;
+use crate::earlier::{put_back, stays_of};
+use crate::enough::more_hosts;
+use crate::fleet::{Fleet, fleet_of};
+use crate::hosts::text_of;
+use crate::vms::{NamedVm, named_vms, vms_of};
+use fleet_place::{FleetHost, Group, Placing, Vm, place, write_placing, write_summary};
+use std::alloc::Global;
+use tab_core::{MAX_TICK_NS, MIN_TICK_NS, TICK_NS};
+use tool_input::{Fault, finish, output_of};
+
+// What is written of a placing.
+#[derive(Clone, Copy)]
+enum Form {
+    // A line for each VM.
+    Lines,
+    // The document of the host of this number.
+    Document(u32),
+    // The documents of all hosts.
+    Documents,
+    // How full each host is, and who is left over.
+    Summary,
+}
+
+// What the words ask for, beside hosts and sizes.
+#[derive(Clone, Copy)]
+struct Asked<'w> {
+    form: Form,
+    // The file of an earlier placing.
+    stay: Option<&'w str>,
+    // Nanoseconds of a tick.
+    tick_ns: u32,
+    ghost least_tick: { MIN_TICK_NS ≤ tick_ns },
+    ghost most_tick: { tick_ns ≤ MAX_TICK_NS },
+}
+
+/// What the words of `place` say.
+#[derive(Clone, Copy)]
+pub struct PlaceWords<'w> {
+    /// How many hosts there are.
+    pub hosts: Option<u32>,
+    /// The cores of each of them.
+    pub cores: Option<u32>,
+    /// The file of hosts of several kinds.
+    pub kinds: Option<&'w str>,
+    /// The file of an earlier placing.
+    pub stay: Option<&'w str>,
+    /// The host whose document is written.
+    pub host: Option<u32>,
+    /// Whether the documents of all hosts are written.
+    pub documents: bool,
+    /// Whether a summary is written.
+    pub summary: bool,
+    /// Nanoseconds of a tick.
+    pub tick_ns: Option<u32>,
+    /// The sizes; lines of standard input where there are none.
+    pub sizes: Option<&'w [&'w str]>,
+}
+
+/// Does `place`: it writes which VM goes on which host, a summary, or documents of hosts. It answers whether each VM has
+/// a host.
+pub fn place_vms(rt: &HostRuntime, words: &PlaceWords<'_>) -> Result<bool, Fault> {
+    let asked = asked_of(words)?;
+    let fleet = fleet_of(rt, words.kinds, words.hosts, words.cores)?;
+    has_host(asked.form, fleet.hosts.len())?;
+    let text = text_of(rt, words.sizes)?;
+    place_sizes(rt, &asked, fleet, &text)
+}
+
+// Places the VMs of the sizes of a text.
+fn place_sizes(
+    rt: &HostRuntime,
+    asked: &Asked<'_>,
+    fleet: Fleet<'_>,
+    text: &[u8],
+) -> Result<bool, Fault>
+    requires { length text.now < 2 ^ 32 }
+{
+    let vms = named_vms(rt.alloc(), text)?;
+    let placing = placing_of(rt, asked, fleet, &vms)?;
+    let more = more_hosts(rt.alloc(), asked.tick_ns, &placing)?;
+    put(rt, asked, &placing)?;
+    tell_left(rt, &placing, more);
+    Ok(placing.left.is_empty())
+}
+
+// What the words ask for. (They were refused where the tick is out of its range.)
+fn asked_of<'w>(words: &PlaceWords<'w>) -> Result<Asked<'w>, Fault> {
+    read_once(words)?;
+    Ok(Asked {
+        form: form_of(words)?,
+        stay: words.stay,
+        tick_ns: words
+            .tick_ns
+            .unwrap_or(TICK_NS)
+            .clamp(MIN_TICK_NS, MAX_TICK_NS),
+    })
+}
+
+// Which text the words ask for.
+fn form_of(words: &PlaceWords<'_>) -> Result<Form, Fault> {
+    match (words.host, words.documents, words.summary) {
+        (None, false, false) => Ok(Form::Lines),
+        (Some(number), false, false) => Ok(Form::Document(number)),
+        (None, true, false) => Ok(Form::Documents),
+        (None, false, true) => Ok(Form::Summary),
+        _ => Err(Fault::OtherTexts),
+    }
+}
+
+// Refuses words by which standard input would be read twice.
+fn read_once(words: &PlaceWords<'_>) -> Result<(), Fault> {
+    match (
+        words.kinds == Some("-"),
+        words.stay == Some("-"),
+        words.sizes.is_some(),
+    ) {
+        (true, true, _) | (true, _, false) | (_, true, false) => Err(Fault::InputTwice),
+        _ => Ok(()),
+    }
+}
+
+// Refuses the number of a host that isn't there.
+fn has_host(form: Form, count: usize) -> Result<(), Fault> {
+    match form {
+        Form::Document(number) if number as usize >= count => Err(Fault::NoSuchHost { count }),
+        _ => Ok(()),
+    }
+}
+
+// Places the VMs on the hosts, where those stay that were there by the lines of an earlier placing.
+fn placing_of<'a>(
+    rt: &HostRuntime,
+    asked: &Asked<'_>,
+    fleet: Fleet<'a>,
+    vms: &'a [NamedVm<'_>],
+) -> Result<Placing<'a>, Fault>
+    requires { length vms.now ≤ MAX_VMS }
+    ensures some { IfOk result (λ placing. 1 ≤ length placing.hosts.items) }
+    ensures few { IfOk result (λ placing. length placing.hosts.items ≤ MAX_HOSTS) }
+{
+    let Fleet { mut hosts } = fleet;
+    let stays = stays_of(rt, asked.stay, vms)?;
+    let all = vms_of(rt.alloc(), asked.tick_ns, vms)?;
+    let others = put_back(rt.alloc(), &mut hosts, &all, &stays)?;
+    let placing = placed(rt.alloc(), asked.tick_ns, &hosts, &others)?;
+    Ok(placing)
+}
+
+/// The VMs of the groups and the others, placed.
+pub(crate) fn placed<'a>(
+    alloc: Global,
+    tick_ns: u32,
+    groups: &[Group<'a>],
+    others: &[Vm<'a>],
+) -> Result<Placing<'a>, Fault>
+    requires least_tick { MIN_TICK_NS ≤ tick_ns }
+    requires most_tick { tick_ns ≤ MAX_TICK_NS }
+    ensures { IfOk result (λ placing. length placing.hosts.items ≡ length groups.now) }
+{
+    match place(alloc, tick_ns, groups, others) {
+        Ok(placing) => Ok(placing),
+        Err(fault) => Err(Fault::from(fault)),
+    }
+}
+
+// Writes what the words ask for.
+fn put(rt: &HostRuntime, asked: &Asked<'_>, placing: &Placing<'_>) -> Result<(), Fault>
+    requires some { 1 ≤ length placing.now.hosts.items }
+    requires few { length placing.now.hosts.items ≤ MAX_HOSTS }
+{
+    let hosts = placing.hosts.as_slice();
+    match asked.form {
+        Form::Lines => put_lines(rt, hosts, &placing.left),
+        Form::Document(number) => put_documents(rt, asked.tick_ns, alone(hosts, number)),
+        Form::Documents => put_documents(rt, asked.tick_ns, hosts),
+        Form::Summary => put_summary(rt, hosts, &placing.left),
+    }
+}
+
+// The host of this number, if it is there.
+fn alone<'h, 'a>(hosts: &'h [FleetHost<'a>], number: u32) -> &'h [FleetHost<'a>] {
+    let first = (number as usize).min(hosts.len());
+    let end = (first + 1).min(hosts.len());
+    &hosts[first..end]
+}
+
+// Writes a line for each VM.
+fn put_lines(rt: &HostRuntime, hosts: &[FleetHost<'_>], left: &[Vm<'_>]) -> Result<(), Fault>
+    requires { length hosts.now ≤ MAX_HOSTS }
+{
+    let mut sink = output_of(rt)?;
+    write_placing(&mut sink, hosts, left)?;
+    finish(&mut sink)
+}
+
+// Writes how full each host is, and a line for each VM that is left over.
+fn put_summary(rt: &HostRuntime, hosts: &[FleetHost<'_>], left: &[Vm<'_>]) -> Result<(), Fault>
+    requires some { 1 ≤ length hosts.now }
+    requires few { length hosts.now ≤ MAX_HOSTS }
+{
+    let mut sink = output_of(rt)?;
+    write_summary(&mut sink, hosts)?;
+    write_placing(&mut sink, &[], left)?;
+    finish(&mut sink)
+}
+
+// Tells how many VMs are left over, if some are, and how many hosts would do.
+fn tell_left(rt: &HostRuntime, placing: &Placing<'_>, more: usize) {
+    let count = placing.left.len();
+    if count > 0 {
+        let enough = placing.hosts.len().saturating_add(more);
+        // (where the line can't be written, the status says it)
+        let _ = eprintln!(rt;
+            "tableau-tools: VMs left over: {count}; hosts that would do: {enough}"
+        );
+    }
+}

@@ -1,0 +1,25 @@
+//! What the commands of `tableau-tools` share: the plans, runs, hosts and traces that they read, standard output, and why a
+//! command doesn't end well.
+//!
+//! A text that isn't what a command wants is a `Fault`, whose words are the line on standard error.
+#![tactic(auto)]
+
+mod fault;
+mod input;
+mod mistaken;
+mod output;
+mod plan;
+mod planned;
+mod quote;
+mod trace;
+mod unkept;
+
+pub use fault::Fault;
+pub use input::{Input, LIMIT, input_beside, input_of, read_once, unread};
+pub use mistaken::{Wanted, bad_line};
+pub use output::{finish, output_of};
+pub use plan::{drawable, host_of, plan_of, view_in, view_of};
+pub use planned::{Planned, planned_in, planned_of, shown_of, tick_of};
+pub use quote::{line_of, place_of, shown};
+pub use trace::trace_of;
+pub use unkept::Refusal;

@@ -1,0 +1,40 @@
+use std::alloc::{AllocError, Global};
+use tab_words::Lines;
+
+// How many bytes of a word or a line are shown.
+const SHOWN: usize = 60;
+
+/// The bytes as a fault shows them: the first 60, and `..` after these, where each that is no printable character of
+/// ASCII is a question mark.
+pub fn shown(alloc: Global, bytes: &[u8]) -> Result<String, AllocError> {
+    let mut text = String::new(alloc);
+    for byte in bytes.iter().take(SHOWN) {
+        let is_shown = (32..=126).contains(byte);
+        text.push(if is_shown { char::from(*byte) } else { '?' })?;
+    }
+    if bytes.len() > SHOWN {
+        text.push_str("..")?;
+    }
+    Ok(text)
+}
+
+/// What is before a fault of the file of this path: its name, a colon and a space; nothing for standard input.
+pub fn place_of(alloc: Global, path: &str) -> Result<String, AllocError> {
+    let mut place = shown(alloc, path.as_bytes())?;
+    if !path.is_empty() {
+        place.push_str(": ")?;
+    }
+    Ok(place)
+}
+
+/// The line of this number, from 1; there is none after the last.
+pub fn line_of(bytes: &[u8], number: u32) -> Option<&[u8]> {
+    let mut before = number;
+    for line in Lines::over(bytes) {
+        before = before.saturating_sub(1);
+        if before == 0 {
+            return Some(line);
+        }
+    }
+    None
+}
