@@ -15,3 +15,4 @@ pub mod Steps
 pub mod Swapping
 pub mod Tables
 pub mod Unique
+pub mod Unswapped

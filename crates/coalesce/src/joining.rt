@@ -1,6 +1,6 @@
-ghost use Rattle.std.specs.Prelude.{◌≡◌, ℕ, ◌+◌, ◌*◌, ◌/◌, ◌<◌, ◌≤◌, List, Some, IfOk, length, slice_get};
+ghost use Rattle.std.specs.Prelude.{◌≡◌, ℕ, ◌+◌, ◌*◌, ◌/◌, ◌<◌, ◌≤◌, List, [], Some, IfOk, OnOk, length, slice_get};
 ghost use Rattle.tab_core.specs.VcpuSets.{has_vcpu};
-ghost use Rattle.tab_core.specs.declared.TheConstants.{MAX_CORES, MAX_VCPUS, ROUND};
+ghost use Rattle.tab_core.specs.declared.TheConstants.{MAX_CORES, ROUND};
 ghost use Rattle.tab_core.specs.declared.piece.Piece.{Piece};
 ghost use Rattle.table_form.specs.Planning.Drafts.{HaveOwnCores, pieces_at};
 ghost use Rattle.table_form.specs.Tables.Rows.{Row};
@@ -10,25 +10,35 @@ ghost use Rattle.coalesce.specs.Joining.{AreJoined, IsJoined};
 ghost use Rattle.coalesce.specs.Inside.Passing.{IsPieceTableOf};
 
 use crate::filling::fill_all;
-use crate::pass::swap_all;
+use crate::pass::{has_sliver_between, swap_all};
 use crate::table::{empty_table, put_pieces, single_vcpus, take_pieces};
 use std::alloc::Global;
 use tab_core::{CoreNo, NoMemory, Piece, Tasks, VcpuSet};
 use table_form::{CoreTable, Draft, Homes, Plan, Rows, Tables};
 
-// Joins the slivers of one core's row.
+// Joins the slivers of the core's row. The table has no piece before and after. It is filled only where some three
+// neighbours may be swapped as far as their owners and ticks say.
 fn join_row(
     alloc: Global,
     row: &CoreTable,
-    table: &[Option<Piece>],
+    core: CoreNo,
+    pieces: &[Piece],
+    table: &mut Vec<Option<Piece>>,
     may_grow: &VcpuSet,
     sliver: u32,
 ) -> Result<CoreTable, NoMemory>
-    requires { length table.now ≡ MAX_VCPUS }
-    ensures { (pieces : List Piece) → IsPieceTableOf pieces table.now
-        → IfOk result (IsJoined pieces (has_vcpu may_grow.now) sliver row.now) }
+    requires own_cores { HaveOwnCores pieces.now }
+    requires none { IsPieceTableOf [] table.old.items }
+    ensures joined { IfOk result (IsJoined (pieces_at pieces.now core) (has_vcpu may_grow.now) sliver row.now) }
+    ensures none { OnOk result (IsPieceTableOf [] table.new.items) }
 {
-    let swapped = swap_all(alloc, row.segments(), table, sliver)?;
+    let segments = row.segments();
+    if !has_sliver_between(segments, sliver) {
+        return Ok(fill_all(Vec::from_slice(alloc, segments)?, may_grow, sliver));
+    }
+    put_pieces(table, pieces, core);
+    let swapped = swap_all(alloc, segments, table, sliver)?;
+    take_pieces(table, pieces);
     Ok(fill_all(swapped, may_grow, sliver))
 }
 
@@ -48,9 +58,16 @@ fn join_rows(
     let mut table = empty_table(alloc)?;
     let mut joined = Vec::with_capacity(alloc, rows.len())?;
     for core in 0..rows.len() {
-        put_pieces(&mut table, pieces, CoreNo(core as u32));
-        joined.push(join_row(alloc, &rows[core], &table, &may_grow, sliver)?)?;
-        take_pieces(&mut table, pieces);
+        let number = CoreNo(core as u32);
+        joined.push(join_row(
+            alloc,
+            &rows[core],
+            number,
+            pieces,
+            &mut table,
+            &may_grow,
+            sliver,
+        )?)?;
     }
     Ok(joined)
 }

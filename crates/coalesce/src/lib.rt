@@ -3,7 +3,8 @@
 //!
 //! `AreJoined` in `specs/Joining.antt` says which rows the joined rows are: on each core the first
 //! rule is applied at its leftmost place until it applies nowhere, and then the second everywhere.
-//! The code makes one pass over a row for each rule.
+//! The code makes one pass over a row for each rule, that of the first only where a short segment is between
+//! two of one owner.
 #![tactic(auto)]
 
 mod filling;

@@ -1,9 +1,9 @@
-ghost use Rattle.std.specs.Prelude.{◌≡◌, ◌+◌, ◌-◌, ◌<◌, ◌≤◌, ◌↔◌, IsTrue, List, [], ◌∷◌, ◌++◌, IfOk, OnOk, length, map};
+ghost use Rattle.std.specs.Prelude.{◌≡◌, ◌+◌, ◌-◌, ◌<◌, ◌≤◌, ◌↔◌, IsTrue, List, [], ◌∷◌, ◌++◌, IfOk, OnOk, false, length, map};
 ghost use Rattle.tab_core.specs.declared.TheConstants.{MAX_VCPUS, ROUND};
 ghost use Rattle.tab_core.specs.declared.piece.Piece.{Piece};
 ghost use Rattle.table_form.specs.Tables.Segments.{AreMaximal, SegmentView, segment_view};
 ghost use Rattle.table_form.specs.declared.segment.Segment.{Segment};
-ghost use Rattle.coalesce.specs.Joining.{SwapsTo};
+ghost use Rattle.coalesce.specs.Joining.{CanSwap, NoSwap, SwapsTo};
 ghost use Rattle.coalesce.specs.Inside.Passing.{CanSwapLast, EndBelow, IsPassed, IsPieceTableOf, StandInRow};
 
 use crate::swap::can_swap;
@@ -70,6 +70,30 @@ fn take_next(
     }
     push_segment(out, next)?;
     Ok(())
+}
+
+// Whether the third of three neighbours may come before the second as far as their owners and ticks say: the first
+// and the third are of one owner, and the second is short.
+fn is_around_sliver(x: &Segment, y: &Segment, z: &Segment, sliver: u32) -> bool
+    ensures { result ≡ false → (pieces : List Piece) → CanSwap pieces sliver (segment_view x.now)
+        (segment_view y.now) (segment_view z.now) → ⊥ }
+{
+    y.end.saturating_sub(x.end) < sliver && x.owner.same(z.owner)
+}
+
+// Whether some three neighbours may be swapped as far as their owners and ticks say. Where none may, no window of a
+// piece has to be looked at.
+pub(crate) fn has_sliver_between(segments: &[Segment], sliver: u32) -> bool
+    ensures { result ≡ false → (pieces : List Piece)
+        → NoSwap pieces sliver (map segment_view segments.now) }
+{
+    for at in 2..segments.len() {
+        let (x, y, z) = (&segments[at - 2], &segments[at - 1], &segments[at]);
+        if is_around_sliver(x, y, z, sliver) {
+            return true;
+        }
+    }
+    false
 }
 
 // Swaps at the leftmost place until none is left. No three segments of `out` may be swapped, so

@@ -3,7 +3,6 @@ use Rattle.std.proofs.lemmas.Option.{slice_get-get_or}
 use Rattle.tab_core.specs.VcpuSets.{has_vcpu}
 use Rattle.table_form.specs.Planning.Drafts.{pieces_at}
 use Rattle.coalesce.specs.Joining.{may_have_more}
-use Rattle.coalesce.specs.Inside.Passing.{IsPieceTableOf}
 use Rattle.coalesce.proofs.Joined.{JoinedSoFar, joined_by, one_joined}
 use Rattle.coalesce.proofs.joining.join_rows.Goals as goal
 
@@ -14,17 +13,16 @@ loop-core-preserved c =
     let row = c.index-rows-core.result in
     let at = slice_get-get_or c.args.rows.now core row c.loop-core-test.true
     ∙ ap Some (sym c.index-rows-core.is) in
-    let of = subst (IsPieceTableOf (pieces_at pieces core)) (sym c.deref.ensures.value) c.put_pieces.ensures in
     let may_grow : (vcpu : ℕ) → has_vcpu c.without-may_grow.result vcpu ≡ may_have_more pieces c.args.capped.now vcpu
     = λ vcpu. c.without-may_grow.ensures vcpu
     ∙ ap (λ b. b && not (has_vcpu c.args.capped.now vcpu)) (c.single_vcpus.ensures vcpu) in
     let made = joined_by (pieces_at pieces core) (has_vcpu c.without-may_grow.result)
     (may_have_more pieces c.args.capped.now) c.args.sliver row c.in_ok-join_row.field-0 may_grow
-    (c.in_ok-join_row.ensures (pieces_at pieces core) of) in
+    c.in_ok-join_row.ensures.joined in
     record {
       joined = subst (JoinedSoFar pieces c.args.capped.now c.args.sliver c.args.rows.now (core + 1))
           (sym c.in_ok-push.ensures.items)
           (one_joined pieces c.args.capped.now c.args.sliver c.args.rows.now core c.loop-core.joined.items row
           c.in_ok-join_row.field-0 at made c.loop-core.invariant.joined);
-      none = c.take_pieces.ensures core c.put_pieces.ensures;
+      none = c.in_ok-join_row.ensures.none;
     }
