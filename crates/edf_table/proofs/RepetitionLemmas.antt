@@ -1,7 +1,7 @@
 -- After a multiple of all periods the row repeats itself.
-use Rattle.std.proofs.Common.{◌≡◌, ℕ, zero, suc, ◌+◌, ◌-◌, ◌*◌, ◌/◌, ◌<◌, ◌≤◌, List, [], ◌∷◌, ◌++◌, length, map, get_or, refl, ap, subst, sym, ◌∙◌, inl, inr, arith, add-one, replicate, drop, append_assoc, length-append}
+use Rattle.std.proofs.Common.{◌≡◌, ℕ, zero, suc, ◌+◌, ◌-◌, ◌*◌, ◌/◌, ◌<◌, ◌≤◌, List, [], ◌∷◌, ◌++◌, Option, length, map, get_or, refl, ap, subst, sym, ◌∙◌, inl, inr, arith, add-one, replicate, drop, append_assoc, length-append}
 use Rattle.std.proofs.lemmas.Bool.{cases_lt}
-use Rattle.std.proofs.lemmas.List.{map-append}
+use Rattle.std.proofs.lemmas.List.{append-nil, drop_all, map-append}
 use Rattle.tab_core.specs.declared.TheConstants.{ROUND}
 use Rattle.tab_core.specs.declared.piece.Piece.{Piece}
 use Rattle.tab_core.proofs.Lists.{drop_next}
@@ -10,7 +10,9 @@ use Rattle.table_form.specs.Planning.Jobs.{jobs_of}
 use Rattle.table_form.specs.Planning.Windows.{DistinctVcpus}
 use Rattle.table_form.specs.declared.segment.Segment.{Segment}
 use Rattle.table_form.specs.Tables.Rows.{RisesTo, Row, cells_from}
-use Rattle.table_form.proofs.RowLemmas.{cells-cons, rises_parts}
+use Rattle.table_form.specs.Tables.Segments.{AreMaximal, put_before, segment_view}
+use Rattle.table_form.proofs.AppendingLemmas.{cells_appended, maximal_appended}
+use Rattle.table_form.proofs.RowLemmas.{cells-cons, cells-nil, rises_none, rises_parts}
 use Rattle.edf_table.specs.Inside.Progress.{IsCommonMultiple, MetBefore, cell}
 use Rattle.edf_table.specs.Inside.Repetition.{so_often}
 use Rattle.edf_table.proofs.Calm.{NoneReady}
@@ -50,6 +52,75 @@ pub left_cells : (ss : List Segment) (i start : ℕ) (s : Segment) → i < lengt
     → cells_from start (drop i ss) ≡ replicate (s.end - start) s.owner ++ cells_from s.end (drop (i + 1) ss)
 left_cells ss i start s lt at =
     ap (cells_from start) (drop_next ss i s lt at) ∙ cells-cons start s (drop (i + 1) ss)
+
+-- each segment has at least one tick, so there are no more segments than ticks
+pub segments_few : (start : ℕ) (ss : List Segment) (end : ℕ) → RisesTo start ss end → start + length ss ≤ end
+segments_few start [] end rises = (let same = rises_none start end rises in omega arith)
+segments_few start (s ∷ ss) end rises =
+    (let parts = rises_parts start s ss end rises in let rest = segments_few s.end ss end parts.1 in
+    omega (arith, parts.0))
+
+-- those before the number have come to a row that had others up to the tick `begin`
+pub record HaveCome (segments old row : List Segment) (begin number : ℕ) : Type 0 where
+  pub start : ℕ
+  pub rises : RisesTo start (drop number segments) (length (cells_from 0 segments))
+  pub maximal : AreMaximal 0 (map segment_view row) (begin + start)
+  pub cells : cells_from 0 row ++ cells_from start (drop number segments)
+      ≡ cells_from 0 old ++ cells_from 0 segments
+
+-- before the first
+pub none_have_come : (segments row : List Segment) (begin : ℕ)
+    → RisesTo 0 segments (length (cells_from 0 segments)) → AreMaximal 0 (map segment_view row) begin
+    → HaveCome segments row row begin 0
+none_have_come segments row begin rises maximal = record {
+  start = 0;
+  rises = rises;
+  maximal = subst (AreMaximal 0 (map segment_view row)) (omega arith) maximal;
+  cells = refl;
+}
+
+-- the next one comes
+pub one_has_come : (segments old row new : List Segment) (begin number : ℕ) (s : Segment) (o : Option ℕ)
+    → number < length segments → s ≡ get_or segments number s → o ≡ s.owner
+    → map segment_view new ≡ put_before (map segment_view row) (record { owner = o; end = begin + s.end } ∷ [])
+    → HaveCome segments old row begin number → HaveCome segments old new begin (number + 1)
+one_has_come segments old row new begin number s o lt is own pushed come =
+    let total = length (cells_from 0 segments) in
+    let rises = left_rise segments number come.start total s lt is come.rises in
+    let n = s.end - come.start in
+    let some : 0 < n = omega (arith, rises.0) in
+    let end : begin + s.end ≡ begin + come.start + n = omega (arith, rises.0) in
+    let rest : Row = cells_from s.end (drop (number + 1) segments) in
+    let at : map segment_view new
+    ≡ put_before (map segment_view row) (record { owner = s.owner; end = begin + come.start + n } ∷ []) =
+    pushed ∙ ap (λ e. put_before (map segment_view row) (record { owner = o; end = e } ∷ [])) end
+    ∙ ap (λ u. put_before (map segment_view row) (record { owner = u; end = begin + come.start + n } ∷ [])) own in
+    record {
+      start = s.end;
+      rises = rises.1;
+      maximal = subst (AreMaximal 0 (map segment_view new)) (sym end)
+          (maximal_appended row new (begin + come.start) n s.owner come.maximal some at);
+      cells = ap (λ cells. cells ++ rest) (cells_appended row new (begin + come.start) n s.owner come.maximal some at)
+          ∙ append_assoc (cells_from 0 row) (replicate n s.owner) rest
+          ∙ ap (λ more. cells_from 0 row ++ more) (sym (left_cells segments number come.start s lt is))
+          ∙ come.cells;
+    }
+
+-- once all have come
+pub all_have_come : (segments old row : List Segment) (begin number : ℕ) → length segments ≤ number
+    → HaveCome segments old row begin number
+    → AreMaximal 0 (map segment_view row) (begin + length (cells_from 0 segments))
+    × (cells_from 0 row ≡ cells_from 0 old ++ cells_from 0 segments)
+all_have_come segments old row begin number past come =
+    let none = drop_all number segments past in
+    let end = rises_none come.start (length (cells_from 0 segments))
+    (subst (λ (ts : List Segment). RisesTo come.start ts (length (cells_from 0 segments))) none come.rises) in (
+      subst (λ e. AreMaximal 0 (map segment_view row) (begin + e)) (omega (arith, end)) come.maximal,
+      sym (append-nil (cells_from 0 row))
+          ∙ ap (λ cells. cells_from 0 row ++ cells)
+          (sym (ap (cells_from come.start) none ∙ cells-nil come.start))
+          ∙ come.cells,
+    )
 
 -- a shifted tick goes to the same vCPU
 owner_alike : (ps : List Piece) (s x : ℕ) → DistinctVcpus ps → IsCommonMultiple ps (length ps) s

@@ -13,7 +13,7 @@ use crate::pending::{FEW, FEW_JOBS, NO_JOBS, Pending};
 use crate::turn::{next_event, put_first_begins, run_turn};
 use std::alloc::{AllocError, Global};
 use tab_core::{MAX_VCPUS, Piece, ROUND};
-use table_form::{CoreTable, Owner, RowBuilder, Segment, push_segment};
+use table_form::{CoreTable, Owner, Segment, push_segment};
 
 // The maximal segments of the ticks below `end`, of pieces that fit. What is in `begins` and `jobs`
 // means nothing.
@@ -74,16 +74,22 @@ pub(crate) fn first_segments(
     first_segments_in(alloc, pieces, end, &mut begins, &mut NO_JOBS)
 }
 
-// Appends the cells of segments, the first of which begins at tick 0.
-fn push_all(row: &mut RowBuilder, segments: &[Segment]) -> Result<(), AllocError>
+// Appends segments, the first of which begins at tick 0, to those of a row up to the tick `begin`, from there on.
+fn push_all(row: &mut Vec<Segment>, begin: u32, segments: &[Segment]) -> Result<(), AllocError>
     requires rises { RisesTo 0 segments.now (length (cells_from 0 segments.now)) }
-    requires room { length row.old + length (cells_from 0 segments.now) ≤ ROUND }
-    ensures { OnOk result (row.new ≡ row.old ++ cells_from 0 segments.now) }
+    requires before { AreMaximal 0 (map segment_view row.old.items) begin }
+    requires room { begin + length (cells_from 0 segments.now) ≤ ROUND }
+    ensures maximal { OnOk result (AreMaximal 0 (map segment_view row.new.items)
+        (begin + length (cells_from 0 segments.now))) }
+    ensures cells { OnOk result (cells_from 0 row.new.items
+        ≡ cells_from 0 row.old.items ++ cells_from 0 segments.now) }
 {
-    let mut start = 0;
     for segment in segments {
-        row.push_run(segment.owner.vcpu(), segment.end - start)?;
-        start = segment.end;
+        let next = Segment {
+            owner: segment.owner,
+            end: begin + segment.end,
+        };
+        push_segment(row, next)?;
     }
     Ok(())
 }
@@ -102,9 +108,10 @@ pub(crate) fn repeated(
     if ticks == ROUND {
         return Ok(CoreTable::of_maximal(segments));
     }
-    let mut row = RowBuilder::new(alloc);
-    for _ in 0..ROUND / ticks {
-        push_all(&mut row, &segments)?;
+    let times = ROUND / ticks;
+    let mut row = Vec::with_capacity(alloc, segments.len() * times as usize)?;
+    for time in 0..times {
+        push_all(&mut row, time * ticks, &segments)?;
     }
-    Ok(row.finish())
+    Ok(CoreTable::of_maximal(row))
 }
