@@ -3,5 +3,6 @@ pub mod OneReport
 pub mod RepeatLemmas
 pub mod ReportLemmas
 pub mod RunLemmas
+pub mod SegmentLemmas
 pub mod StretchLemmas
 pub mod SweepLemmas

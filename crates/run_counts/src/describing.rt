@@ -7,7 +7,7 @@ ghost use Rattle.run_counts.specs.Inside.Tells.{IsToldRound};
 ghost use Rattle.run_counts.specs.Stretches.{no_ticks, stretch_at};
 
 use crate::stretch::Stretch;
-use crate::sweep::{offer_owners, steady_to};
+use crate::sweep::{ROWS, offer_owners, steady_to};
 use tab_core::{Periodic, ROUND};
 use table_form::Plan;
 
@@ -19,10 +19,11 @@ pub(crate) fn describe(plan: &Plan, stretches: &mut [Stretch])
 {
     let rows = plan.tables.rows.items();
     clear(stretches);
+    let mut numbers = [0; ROWS];
     let mut place = 0;
     'sweeping: while place < ROUND {
-        let end = steady_to(rows, place);
-        offer_owners(rows, place, end, stretches);
+        let end = steady_to(rows, place, &mut numbers);
+        offer_owners(rows, place, end, &numbers, stretches);
         place = end;
     }
     close(plan.tasks.items(), stretches);

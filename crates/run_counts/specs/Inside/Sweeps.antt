@@ -1,6 +1,7 @@
 -- The stretch of a vCPU as a round's rows are gone over.
-use Rattle.std.specs.Prelude.{◌≡◌, ℕ, ◌-◌, ◌<◌, ◌≤◌, Bool, false, if◌then◌else◌, List}
+use Rattle.std.specs.Prelude.{◌≡◌, ℕ, ◌-◌, ◌<◌, ◌≤◌, ◌+◌, Bool, false, if◌then◌else◌, List, length, slice_index_or}
 use Rattle.tab_core.specs.declared.TheConstants.{ROUND}
+use Rattle.table_form.specs.declared.segment.Segment.{Segment}
 use Rattle.table_form.specs.Promises.Offered.{some_row_has}
 use Rattle.table_form.specs.Tables.Plans.{PlanView}
 use Rattle.table_form.specs.Tables.Rows.{Row}
@@ -26,3 +27,9 @@ pub record IsToldTo (plan : PlanView) (v place : ℕ) (s : Stretch) : Type 0 whe
 -- the stretch once the round is over
 abbrev pub closed : Bool → Stretch → Stretch
 closed has_task s = if has_task then joined s (all_wait (ROUND - s.ticks)) else neither ROUND
+
+-- the segment of the number ends after the place, and the one before it doesn't
+pub record HoldsPlace (segments : List Segment) (number place : ℕ) : Type 0 where
+  pub there : number < length segments
+  pub after : (d : Segment) → place < (slice_index_or segments number d).end
+  pub ended : (k : ℕ) (d : Segment) → k + 1 ≡ number → (slice_index_or segments k d).end ≤ place

@@ -34,7 +34,7 @@ loop-core-preserved c =
     let k = c.loop-core.core in
     let place = c.args.place in
     let end = c.args.end in
-    elim c.match-cell.branch [
+    elim c.match-owner_near.branch [
       | in-Some w ↦ (let v = w.in-Some.vcpu in
           let at : w.index-at.result ≡ v = w.index-at.ensures.value in
           let small : v < MAX_VCPUS = omega (arith, at, w.index-at.ensures.small) in
@@ -42,9 +42,9 @@ loop-core-preserved c =
           owner_read rows k place c.index-rows-core.result (Some v) c.loop-core-test.true c.index-rows-core.is
           w.in-Some.ensures in
           record {
-            size = c.match-cell.auto.stretches ∙ c.loop-core.invariant.size;
+            size = c.match-owner_near.auto.stretches ∙ c.loop-core.invariant.size;
             swept_so_far = swept_with rows k v place end MAX_VCPUS c.loop-core.stretches
-                c.match-cell.stretches
+                c.match-owner_near.stretches
                 c.args.stretches.now w.offered_to.result c.requires.apart c.loop-core-test.true owner
                 (omega (arith, small, c.loop-core.invariant.size)) small c.loop-core.invariant.swept_so_far
                 (w.stretches-is ∙ ap (λ (i : ℕ). set c.loop-core.stretches i w.offered_to.result) at)
@@ -52,8 +52,8 @@ loop-core-preserved c =
                 ∙ ap (λ (i : ℕ). offered_to (stretch_at c.loop-core.stretches i) place end) at);
           })
       | in_default w ↦ record {
-        size = c.match-cell.auto.stretches ∙ c.loop-core.invariant.size;
-        swept_so_far = swept_without rows k place end MAX_VCPUS c.loop-core.stretches c.match-cell.stretches
+        size = c.match-owner_near.auto.stretches ∙ c.loop-core.invariant.size;
+        swept_so_far = swept_without rows k place end MAX_VCPUS c.loop-core.stretches c.match-owner_near.stretches
             c.args.stretches.now c.loop-core-test.true
             (owner_read rows k place c.index-rows-core.result None c.loop-core-test.true c.index-rows-core.is
             w.in_default.ensures)
