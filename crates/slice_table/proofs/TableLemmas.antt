@@ -141,7 +141,7 @@ spans_more plan c from to (s ∷ ss) span are shown end =
     (are.0, are.1, spans_more plan c s.end to ss span are.2 shown end)
 
 -- a list has an element at each number below its length
-some_span : (spans : List FullSpan) (k : ℕ) → k < length (ends_of spans)
+pub some_span : (spans : List FullSpan) (k : ℕ) → k < length (ends_of spans)
     → (span : FullSpan) × (slice_get spans k ≡ Some span) × (slice_index (ends_of spans) k ≡ span.end)
 some_span [] k lt = absurd (omega arith)
 some_span (s ∷ ss) zero lt = (s, refl, refl)

@@ -115,7 +115,24 @@ impl SliceTable {
         ensures span { IfSome result (λ span. (plan : PlanView) (c : ℕ) → IsTableOf plan c self.now
             → IsSpan plan c tick span.owner span.sharers.now span.end) }
     {
-        let number = guess as usize;
+        match self.short_span(guess as usize, tick) {
+            Some(span) => Some(span),
+            None => self.span_numbered(tick, guess),
+        }
+    }
+
+    // The span of this number, if there is one and it holds the tick, whatever its entry. It is a function of its own,
+    // so that the way of a short entry is short.
+    #[cold]
+    #[inline(never)]
+    fn span_numbered(&self, tick: u32, number: u32) -> Option<Span<'_>>
+        ensures none { IfNone result (HoldsTick (ends_of self.now) number tick → ⊥) }
+        ensures after { IfSome result (λ span. tick < span.end) }
+        ensures within { IfSome result (λ span. span.end ≤ ROUND) }
+        ensures span { IfSome result (λ span. (plan : PlanView) (c : ℕ) → IsTableOf plan c self.now
+            → IsSpan plan c tick span.owner span.sharers.now span.end) }
+    {
+        let number = number as usize;
         if !self.holds(number, tick) {
             return None;
         }
