@@ -10,7 +10,7 @@ use Rattle.period_choice.specs.Choice.{HasPeriod}
 use Rattle.period_choice.specs.Tasks.{AreTasksOf, IsFirstWithoutPeriod, IsTaskOf, LacksPeriod}
 use Rattle.tab_core.specs.declared.reservation.Reservation.{Reservation}
 use Rattle.toml.specs.Data.{Members}
-use Rattle.advice.specs.Advice.{IsPeriodText, IsVcpuText, TellsOfDocument, TellsOfTasks}
+use Rattle.advice.specs.Advice.{IsPeriodText, IsVcpuText, TellsOfBudgets, TellsOfDocument, TellsOfTasks}
 use Rattle.advice.specs.Inside.Again.{IsNoDocument, IsNoHost, LacksTasks}
 
 -- a vCPU without a period has no task
@@ -37,6 +37,11 @@ no_member_is_told section told none other tells = none tells.0 tells.1
 pub no_host_is_told : (section : List ℕ) (Told : Host → List (Option Periodic) → List ℕ → Type 0)
     → IsNoHost section → (other : List ℕ) → ¬ (TellsOfTasks section Told other)
 no_host_is_told section Told none other tells = none tells.host tells.is_host
+
+-- no text says anything of the budgets of a host that has none
+pub no_budget_is_told : (Told : Host → List (Option Periodic) → List ℕ → Type 0) (host : Host) → LacksTasks host
+    → (other : List ℕ) → ¬ (TellsOfBudgets Told host other)
+no_budget_is_told Told host none other tells = none tells.tasks tells.are_tasks
 
 -- no text says anything of the budgets of a host of which a vCPU has no period
 pub no_task_is_told : (section : List ℕ) (Told : Host → List (Option Periodic) → List ℕ → Type 0) (host : Host)

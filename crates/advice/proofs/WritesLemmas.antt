@@ -11,7 +11,7 @@ use Rattle.host_doc.specs.Document.{IsHostText}
 use Rattle.period_choice.specs.Tasks.{AreTasksOf}
 use Rattle.tab_words.specs.Commands.{IsCommand}
 use Rattle.tab_words.specs.declared.command.Command.TheVariants.{PlanStay}
-use Rattle.advice.specs.Advice.{IsPeriodText, IsVcpuText, TellsOfTasks, WhereThereIs, WhetherToStay, WritesSome}
+use Rattle.advice.specs.Advice.{IsPeriodText, IsVcpuText, TellsOfBudgets, TellsOfTasks, WhereThereIs, WhetherToStay, WritesSome}
 use Rattle.advice.specs.Faults.{of_sink}
 use Rattle.advice.specs.declared.fault.AdviceFault.{AdviceFault}
 use Rattle.advice.specs.declared.fault.AdviceFault.TheVariants as fault
@@ -54,6 +54,13 @@ pub writes_otherwise : (words : List (List ℕ)) (IsText IsOther : List ℕ → 
     → WritesSome (WhetherToStay words IsText IsOther) s t r
 writes_otherwise words IsText IsOther s t r others wrote =
     writes_as (λ text told. inr (others, told)) s t r wrote
+
+-- a text that tells of this host's budgets was written
+pub tells_budgets : (Told : Host → List (Option Periodic) → List ℕ → Type 0) (host : Host)
+    (tasks : List (Option Periodic)) (s t : SinkView) (r : Result (Unit {0}) AdviceFault) → AreTasksOf host tasks
+    → WritesSome (Told host tasks) s t r → WritesSome (WhereThereIs (TellsOfBudgets Told host)) s t r
+tells_budgets Told host tasks s t r are_tasks wrote = writes_as (λ text told.
+    inl (record { tasks = tasks; are_tasks = are_tasks; tells = told })) s t r wrote
 
 -- a text that tells of the host's budgets was written
 pub tells_tasks : (section : List ℕ) (Told : Host → List (Option Periodic) → List ℕ → Type 0) (host : Host)

@@ -73,6 +73,13 @@ pub record IsPeriodText (section : List ℕ) (number : ℕ) (text : List ℕ) : 
   pub at : slice_get host.vcpus number ≡ Some vcpu
   pub tells : IsVcpuText vcpu host.tick_ns text
 
+-- the host has these budgets, of which the text tells
+pub record TellsOfBudgets (Told : Host → List (Option Periodic) → List ℕ → Type 0) (host : Host) (text : List ℕ)
+    : Type 0 where
+  pub tasks : List (Option Periodic)
+  pub are_tasks : AreTasksOf host tasks
+  pub tells : Told host tasks text
+
 -- the section is a host with these budgets, of which the text tells
 pub record TellsOfTasks (section : List ℕ) (Told : Host → List (Option Periodic) → List ℕ → Type 0)
     (text : List ℕ) : Type 0 where
@@ -98,9 +105,9 @@ IsSameText section vcpu text = TellsOfDocument section (λ members. same_text me
 abbrev pub TellsRoom : Host → List (Option Periodic) → List ℕ → Type 0
 TellsRoom host tasks text = text ≡ room_text (due_of_tasks tasks) (host.cores * ROUND)
 
--- the text is the advice on the host of this section, in which some vCPU has no room
-abbrev pub IsRoomText : List ℕ → List ℕ → Type 0
-IsRoomText section text = TellsOfTasks section TellsRoom text
+-- the text is the advice on this host, in which some vCPU has no room
+abbrev pub IsRoomText : Host → List ℕ → Type 0
+IsRoomText host text = TellsOfBudgets TellsRoom host text
 
 -- the host has a plan of `plan`
 abbrev pub HostHasPlan : Host → Type 0
@@ -112,9 +119,9 @@ TellsOfPlan host tasks text =
     (HostHasPlan host × (text ≡ planned_text (due_of_tasks tasks) (host.cores * ROUND)))
     ⊎ (¬ (HostHasPlan host) × (text ≡ unplanned_text (due_of_tasks tasks) (host.cores * ROUND)))
 
--- the text is the advice on the host of this section, in which some vCPU has no room beside those that stay
-abbrev pub IsStayText : List ℕ → List ℕ → Type 0
-IsStayText section text = TellsOfTasks section TellsOfPlan text
+-- the text is the advice on this host, in which some vCPU has no room beside those that stay
+abbrev pub IsStayText : Host → List ℕ → Type 0
+IsStayText host text = TellsOfBudgets TellsOfPlan host text
 
 -- the text says what this line of the plan text is, and which line is wanted there
 abbrev pub TellsOfLine : List ℕ → ℕ → Host → List (Option Periodic) → List ℕ → Type 0
@@ -134,10 +141,10 @@ abbrev pub WhetherToStay : List (List ℕ) → (List ℕ → Type 0) → (List �
 WhetherToStay words IsText IsOther text =
     (IsCommand words PlanStay × IsText text) ⊎ (¬ (IsCommand words PlanStay) × IsOther text)
 
--- the advice on a vCPU of the host that finds no room
-abbrev pub IsNoRoomAdvice : List (List ℕ) → List ℕ → List ℕ → Type 0
-IsNoRoomAdvice words section text =
-    WhetherToStay words (WhereThereIs (IsStayText section)) (WhereThereIs (IsRoomText section)) text
+-- the advice on a vCPU of this host that finds no room
+abbrev pub IsNoRoomAdvice : List (List ℕ) → Host → List ℕ → Type 0
+IsNoRoomAdvice words host text =
+    WhetherToStay words (WhereThereIs (IsStayText host)) (WhereThereIs (IsRoomText host)) text
 
 -- the advice on this line of a plan text, which `plan stay` reads without its host
 abbrev pub IsLineAdvice : List (List ℕ) → List ℕ → List ℕ → ℕ → List ℕ → Type 0
@@ -198,7 +205,7 @@ abbrev pub IsAdvice : List (List ℕ) → List ℕ → Refusal → List ℕ → 
 IsAdvice words input (refusal.Host fault) text = IsHostAdvice (section_at 0 input) fault text
 IsAdvice words input (refusal.NoPeriod vcpu) text =
     WhereThereIs (IsPeriodText (section_at 0 input) vcpu) text
-IsAdvice words input refusal.NoRoom text = IsNoRoomAdvice words (section_at 0 input) text
+IsAdvice words input (refusal.NoRoom host) text = IsNoRoomAdvice words host.now text
 IsAdvice words input (refusal.BadPlanLine line) text =
     IsLineAdvice words (section_at 0 input) (section_at 1 input) line text
 IsAdvice words input other text = text ≡ plain_text words input other

@@ -202,15 +202,12 @@ fn put_period<K: Sink>(
 pub(crate) fn put_no_room<K: Sink>(
     alloc: Global,
     sink: &mut K,
-    section: &[u8],
+    host: &Host,
 ) -> Result<(), AdviceFault>
-    ensures { WritesSome (WhereThereIs (IsRoomText section.now)) (K.state sink.old) (K.state sink.new) result }
+    ensures { WritesSome (WhereThereIs (IsRoomText host.now)) (K.state sink.old) (K.state sink.new) result }
 {
-    let Some(host) = host_again(alloc, section)? else {
-        return Ok(());
-    };
-    match tasks_again(alloc, &host)? {
-        Some(tasks) => of_sink(put_room_of(sink, &host, &tasks)),
+    match tasks_again(alloc, host)? {
+        Some(tasks) => of_sink(put_room_of(sink, host, &tasks)),
         None => Ok(()),
     }
 }
@@ -230,15 +227,12 @@ fn put_room_of<K: Sink>(sink: &mut K, host: &Host, tasks: &Tasks) -> Result<(), 
 pub(crate) fn put_no_room_to_stay<K: Sink>(
     alloc: Global,
     sink: &mut K,
-    section: &[u8],
+    host: &Host,
 ) -> Result<(), AdviceFault>
-    ensures { WritesSome (WhereThereIs (IsStayText section.now)) (K.state sink.old) (K.state sink.new) result }
+    ensures { WritesSome (WhereThereIs (IsStayText host.now)) (K.state sink.old) (K.state sink.new) result }
 {
-    let Some(host) = host_again(alloc, section)? else {
-        return Ok(());
-    };
-    match tasks_again(alloc, &host)? {
-        Some(tasks) => put_whether_planned(alloc, sink, &host, tasks),
+    match tasks_again(alloc, host)? {
+        Some(tasks) => put_whether_planned(alloc, sink, host, tasks),
         None => Ok(()),
     }
 }

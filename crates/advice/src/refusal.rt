@@ -1,6 +1,6 @@
 use host_doc::HostFault;
 use script_doc::ScriptFault;
-use tab_core::{Actor, CoreNo, VcpuNo};
+use tab_core::{Actor, CoreNo, Host, VcpuNo};
 
 /// What a core, or the controller, has to do next, or why there is nothing to do.
 #[derive(Clone, Copy, PartialEq, Eq)]
@@ -19,7 +19,7 @@ pub enum Due {
 
 /// What a call refused, with what its line tells of the place.
 #[derive(Clone, Copy)]
-pub enum Refusal {
+pub enum Refusal<'a> {
     /// The words are no command. The place is that of the first word with which none begins, from 0.
     Usage {
         place: u32,
@@ -45,8 +45,10 @@ pub enum Refusal {
     NoPeriod {
         vcpu: VcpuNo,
     },
-    /// A vCPU can't be split over the cores.
-    NoRoom,
+    /// A vCPU of this host can't be split over the cores.
+    NoRoom {
+        host: &'a Host,
+    },
     /// The vCPUs are due so many ticks of a round, and all cores have so many.
     NoFit {
         demand: u64,

@@ -15,22 +15,23 @@ use crate::sections::put_sections;
 use crate::step_lines::{put_bad_step, put_due, put_waits};
 use crate::usage::put_usage;
 use std::alloc::Global;
+use tab_core::Host;
 use tab_io::{Sink, WriteFault, write_all};
 use tab_words::{Command, read_words};
 
 /// Writes the advice on a refusal of these words with this input, of less than 2^32 bytes: where the fault
 /// is and what to do, in up to four lines that begin with `tableau: `.
 ///
-/// The host is read again where its text is no TOML, has an unknown key or a fault of a vCPU, where it has no
-/// plan, and where it isn't that of a plan text. Where it isn't refused so, there is then no advice, and nothing
-/// is written. Nor is anything where memory runs out (`NoMemory`). A host without room for `plan stay` is planned
-/// afresh, in the calling thread, to say whether `plan` has a plan. A fault of the sink leaves a prefix of the
-/// advice in it. Nothing is settled.
+/// The host is read again where its text is no TOML, has an unknown key or a fault of a vCPU, where a vCPU has no
+/// period, and where the host isn't that of a plan text. Where it isn't refused so, there is then no advice, and
+/// nothing is written. Nor is anything where memory runs out (`NoMemory`). A host without room is given with the
+/// refusal. For `plan stay` it is planned afresh, in the calling thread, to say whether `plan` has a plan. A fault
+/// of the sink leaves a prefix of the advice in it. Nothing is settled.
 pub fn write_advice<K: Sink>(
     alloc: Global,
     words: &[String],
     input: &[u8],
-    refusal: &Refusal,
+    refusal: &Refusal<'_>,
     sink: &mut K,
 ) -> Result<(), AdviceFault>
     requires short { length input.now < 2 ^ 32 }
@@ -40,7 +41,7 @@ pub fn write_advice<K: Sink>(
     match refusal {
         Refusal::Host(fault) => put_host(alloc, sink, section_at(input, 0), fault),
         Refusal::NoPeriod { vcpu } => put_no_period(alloc, sink, section_at(input, 0), vcpu),
-        Refusal::NoRoom => put_room_advice(alloc, words, sink, section_at(input, 0)),
+        Refusal::NoRoom { host } => put_room_advice(alloc, words, sink, host),
         Refusal::BadPlanLine { line } => put_line_advice(
             alloc,
             words,
@@ -58,15 +59,15 @@ fn put_room_advice<K: Sink>(
     alloc: Global,
     words: &[String],
     sink: &mut K,
-    section: &[u8],
+    host: &Host,
 ) -> Result<(), AdviceFault>
-    ensures { WritesSome (IsNoRoomAdvice (texts words.now) section.now)
+    ensures { WritesSome (IsNoRoomAdvice (texts words.now) host.now)
         (K.state sink.old) (K.state sink.new) result }
 {
     if is_plan_stay(words) {
-        put_no_room_to_stay(alloc, sink, section)
+        put_no_room_to_stay(alloc, sink, host)
     } else {
-        put_no_room(alloc, sink, section)
+        put_no_room(alloc, sink, host)
     }
 }
 
@@ -103,7 +104,7 @@ fn is_plan_stay(words: &[String]) -> bool
 fn put_plain<K: Sink>(
     words: &[String],
     input: &[u8],
-    refusal: &Refusal,
+    refusal: &Refusal<'_>,
     sink: &mut K,
 ) -> Result<(), WriteFault>
     requires short { length input.now < 2 ^ 32 }
@@ -132,7 +133,7 @@ fn put_plain<K: Sink>(
 }
 
 // The advice on what the line of the refusal tells whole.
-fn known_text(refusal: &Refusal) -> &'static [u8]
+fn known_text(refusal: &Refusal<'_>) -> &'static [u8]
     ensures { result.now ≡ known_text refusal.now }
 {
     match refusal {

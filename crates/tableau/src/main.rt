@@ -57,7 +57,7 @@ fn main(rt: HostRuntime) -> ExitCode {
     gate.clear();
     let is_over = matches!(done.status, Status::WriteFault) && is_closed_pipe(&mut io::writer(&rt));
     if !is_over {
-        tell(&rt.stderr(), rt.alloc(), words, input.kept(), &done.status);
+        tell(&rt.stderr(), rt.alloc(), words, input.kept(), &done);
     }
     ExitCode::from(done.status.exit())
 }

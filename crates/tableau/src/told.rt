@@ -7,7 +7,7 @@ use std::alloc::Global;
 use step_machine::{Answer, Phase};
 use tab_io::MemSink;
 use table_check::CheckFault;
-use tableau_sim::Status;
+use tableau_sim::{Done, Status};
 
 // Room for the longest of these texts.
 const ROOM: usize = 4096;
@@ -22,18 +22,12 @@ pub(crate) fn prompt<P: Print>(output: &P, alloc: Global, words: &[String]) {
     let _ = output.write_all(sink.bytes());
 }
 
-/// Writes the advice on this status of a call with these words, which read this input. Where memory
+/// Writes the advice on the status of this end of a call with these words, which read this input. Where memory
 /// runs out, or the output fails, nothing more is written.
-pub(crate) fn tell<P: Print>(
-    output: &P,
-    alloc: Global,
-    words: &[String],
-    input: &[u8],
-    status: &Status,
-)
+pub(crate) fn tell<P: Print>(output: &P, alloc: Global, words: &[String], input: &[u8], done: &Done)
     requires short { length input.now < 2 ^ 32 }
 {
-    let Some(refusal) = refusal_of(status) else {
+    let Some(refusal) = refusal_of(done) else {
         return;
     };
     let Ok(mut sink) = MemSink::with_room(alloc, ROOM) else {
@@ -44,8 +38,8 @@ pub(crate) fn tell<P: Print>(
 }
 
 // What the advice is asked of.
-fn refusal_of(status: &Status) -> Option<Refusal> {
-    let refusal = match status {
+fn refusal_of(done: &Done) -> Option<Refusal<'_>> {
+    let refusal = match &done.status {
         Status::Ok => return None,
         Status::Usage { place } => Refusal::Usage { place: *place },
         Status::ReadFault => Refusal::ReadFault,
@@ -58,7 +52,9 @@ fn refusal_of(status: &Status) -> Option<Refusal> {
         Status::Script(fault) => Refusal::Script(*fault),
         Status::BadStep { line } => Refusal::BadStep { line: *line },
         Status::NoPeriod { vcpu } => Refusal::NoPeriod { vcpu: *vcpu },
-        Status::NoRoom { .. } => Refusal::NoRoom,
+        Status::NoRoom { .. } => Refusal::NoRoom {
+            host: done.host.as_ref()?,
+        },
         Status::NoFit { demand, room } => Refusal::NoFit {
             demand: *demand,
             room: *room,
@@ -74,7 +70,7 @@ fn refusal_of(status: &Status) -> Option<Refusal> {
 }
 
 // What the advice is asked of tables that are no plan.
-fn of_tables(fault: &CheckFault) -> Option<Refusal> {
+fn of_tables(fault: &CheckFault) -> Option<Refusal<'static>> {
     match fault {
         CheckFault::BadShape { core, place } => Some(Refusal::BadShape {
             core: *core,
@@ -105,7 +101,7 @@ fn of_tables(fault: &CheckFault) -> Option<Refusal> {
 }
 
 // What the advice is asked of a step that isn't done.
-fn of_step(line: u32, answer: &Answer) -> Option<Refusal> {
+fn of_step(line: u32, answer: &Answer) -> Option<Refusal<'static>> {
     let due = match answer {
         Answer::Done => return None,
         Answer::Behind { who, tick } => {

@@ -4,6 +4,7 @@ use Rattle.std.proofs.lemmas.List.{length-map}
 use Rattle.tab_core.specs.declared.host.Host.{Host}
 use Rattle.tab_words.specs.declared.command.RunMode.{RunMode}
 use Rattle.tab_words.specs.declared.command.RunMode.TheVariants.{Live}
+use Rattle.host_doc.specs.Document.{IsHostText}
 use Rattle.script_doc.specs.declared.event.Event.{Event}
 use Rattle.table_form.specs.Promises.Run.{KeepsPromises}
 use Rattle.plan_book.specs.declared.outcome.Outcome.{Outcome as PlanOutcome}
@@ -19,15 +20,16 @@ use Rattle.run_live.specs.LiveRuns.{CannotBePlanned, IsLiveRunOf, IsLiveRunWrita
 use Rattle.tableau_sim.specs.declared.commands.run.Ready.TheVariants as readied
 use Rattle.tableau_sim.specs.declared.reply.Stop.{Stop}
 use Rattle.tableau_sim.specs.declared.reply.Text.{Text}
-use Rattle.tableau_sim.specs.Inside.Reply.{MakesOnSeat}
+use Rattle.tableau_sim.specs.Inside.Reply.{HasItsHost, MakesOnSeat}
 use Rattle.tableau_sim.specs.Inside.Running.{IsReadyOf}
 use Rattle.tableau_sim.specs.Inside.Stops.{live_stop, plan_stop}
 use Rattle.tableau_sim.specs.Outcomes.CallOutcome.{Writes}
 use Rattle.tableau_sim.specs.Replay.{HasScript}
 use Rattle.tableau_sim.specs.Run.{Runs, RunsWhole}
 use Rattle.tableau_sim.specs.Seats.{LeavesRun}
+use Rattle.tableau_sim.specs.Sections.{host_section}
 use Rattle.tableau_sim.proofs.RunLemmas.{stops_on_seat}
-use Rattle.tableau_sim.proofs.StopsLemmas.{plan_stopped}
+use Rattle.tableau_sim.proofs.StopsLemmas.{plan_keeps, plan_stopped}
 
 module _ (rounds : ℕ) (host : Host) (events : List Event) (view : View) (ran : LiveRanView) (is : IsLiveRunOf rounds host events view ran) where
   promises : KeepsPromises ran.book.course rounds (state_of ran.book.course view)
@@ -76,12 +78,19 @@ pub left_live : (rounds : ℕ) (old new : View) (sections : List (List ℕ)) (ho
     (Err (live_stop fault host))
 left_live rounds old new sections host events (NotBegun fault) script first left =
     let same : new ≡ old = left.0 ∙ sym first in
-    stops_on_seat (Runs rounds Live new sections) (LeavesRun rounds Live old new sections) old new (plan_stop fault host)
-    same (inl same) (plan_stopped (Runs rounds Live new sections) host fault
+    stops_on_seat (Runs rounds Live new sections) (LeavesRun rounds Live old new sections) (host_section sections) old new
+    (plan_stop fault host) same (inl same)
+    (plan_stopped (Runs rounds Live new sections) (host_section sections) host fault script.is_host
     (λ vcpu e. Runs.NoPeriod host events vcpu script (subst (CannotBePlanned host) e left.1))
     (λ vcpu rest over e. Runs.NoRoom host events vcpu rest over script (subst (CannotBePlanned host) e left.1)))
 left_live rounds old new sections host events Stopped script first left =
     inr (record { host = host; events = events; script = script; so_far = left })
+
+-- where it didn't begin without room, it keeps its host
+pub live_keeps : (section : List ℕ) (host : Host) (fault : LiveFault) → IsHostText section host
+    → HasItsHost section (Err (live_stop fault host))
+live_keeps section host (NotBegun fault) is = plan_keeps section host fault is
+live_keeps section host Stopped is = tt {0}
 
 -- what is made of a run that was planned beside its cores is what `run` makes of the sections
 pub beside_reply : (rounds : ℕ) (mode : RunMode) (old new : View) (sections : List (List ℕ)) (host : Host)

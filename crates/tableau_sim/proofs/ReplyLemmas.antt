@@ -1,9 +1,11 @@
 -- What was read, and what is due after it: the lemmas of `specs/Inside/Reply.antt`.
-use Rattle.std.proofs.Common.{◌≡◌, ℕ, ◌≤◌, List, [], true, false, length, refl, None, Result, Ok, Err, sym, subst, arith}
+use Rattle.std.proofs.Common.{◌≡◌, ℕ, ◌≤◌, List, [], true, false, length, refl, Option, Some, None, Result, Ok, Err, inl, inr, sym, subst, arith}
 use Rattle.std.proofs.KnownBytes.{Consumes-nil}
 use Rattle.std.specs.Io.KnownBytes.{Consumes}
 use Rattle.std.specs.Prelude.{IsErrOf, Vec}
 use Rattle.std.specs.declared.alloc.Global.{Global}
+use Rattle.tab_core.specs.declared.host.Host.{Host}
+use Rattle.tab_core.specs.declared.over.Over.{Over}
 use Rattle.tab_io.specs.Sources.{EndsReading, ReadsAll}
 use Rattle.tab_io.specs.Views.{SourceView, SinkView}
 use Rattle.tab_io.specs.declared.source.ReadAll.{ReadAll}
@@ -11,6 +13,8 @@ use Rattle.tab_io.specs.declared.source.ReadAll.TheVariants as read
 use Rattle.tab_words.specs.Commands.{IsCommand, IsFaultAt}
 use Rattle.tab_words.specs.Sections.{sections_of}
 use Rattle.tab_words.specs.declared.command.Command.{Command}
+use Rattle.host_doc.specs.Document.{IsHostText}
+use Rattle.vcpu_names.specs.Names.{names_of}
 use Rattle.tableau_sim.specs.declared.input.TheConstants.{INPUT_LIMIT}
 use Rattle.tableau_sim.specs.declared.reply.Stop.{Stop}
 use Rattle.tableau_sim.specs.declared.reply.Stop.TheVariants as stop
@@ -20,15 +24,17 @@ use Rattle.tableau_sim.specs.declared.status.Status.TheVariants as status
 use Rattle.tab_words.specs.declared.command.Command.TheVariants as called
 use Rattle.tableau_sim.specs.Columns.{reads, takes_memory}
 use Rattle.tableau_sim.specs.Commands.{IsStillCommand}
-use Rattle.tableau_sim.specs.Inside.Reply.{HasInput, HasNoInput, IsOff, IsReplyTo, Makes, StopsReading, outcome_in}
-use Rattle.tableau_sim.specs.Frame.{Answers, Due, HasReadIf, MayHaveReadIf, WritesReply}
+use Rattle.tableau_sim.specs.Inside.Reply.{AnswersWith, HasInput, HasNoInput, IsOff, IsReplyTo, Makes, StopsReading, handed, host_in, outcome_in}
+use Rattle.tableau_sim.specs.Clauses.{HandsHost, RefusesHost}
+use Rattle.tableau_sim.specs.Frame.{Answers, Due, HasReadIf, IsDue, MayHaveReadIf, WritesReply, outcome_of}
 use Rattle.tableau_sim.specs.Frame.Due.{LacksMemory, NoCommand, Replied, SourceFailed, TooMuch}
-use Rattle.tableau_sim.specs.Outcomes.{CallOutcome}
-use Rattle.tableau_sim.specs.Sections.{OfSections}
+use Rattle.tableau_sim.specs.Outcomes.{CallOutcome, status_of}
+use Rattle.tableau_sim.specs.Outcomes.CallOutcome.{Refuses}
+use Rattle.tableau_sim.specs.Sections.{OfSections, host_section}
 use Rattle.tableau_sim.specs.Sections.OfSections.{BadSections, Sectioned}
 
 -- the call replies and writes, and no more: its whole answer comes from these two
-pub answers_of : (R : Command → List ℕ → CallOutcome → Type 0) (Leaves : Due → List ℕ → Type 0) (words : List (List ℕ))
+answers_of : (R : Command → List ℕ → CallOutcome → Type 0) (Leaves : Due → List ℕ → Type 0) (words : List (List ℕ))
     (source source' : SourceView) (sink sink' : SinkView) (told : Status) (reply : Result Text Stop)
     → IsReplyTo R Leaves words source source' reply
     → WritesReply sink sink' (outcome_in reply) told → Answers R Leaves words source source' sink sink' told
@@ -39,6 +45,68 @@ answers_of R Leaves words source source' sink sink' told reply is written = reco
   due = is.due;
   is_due = is.is_due;
   written = subst (λ outcome. WritesReply sink sink' outcome told) (sym is.same) written;
+}
+
+-- a refusal for room that is due is a command's of what it has read
+refused_by : (R : Command → List ℕ → CallOutcome → Type 0) (Leaves : Due → List ℕ → Type 0) (words : List (List ℕ))
+    (old new : SourceView) (input : List ℕ) (due : Due) (vcpu rest : ℕ) (over : List Over) (host : Host)
+    → Consumes old.rest new.rest input → IsDue R Leaves words old new input due
+    → outcome_of due ≡ Refuses (status.NoRoom vcpu rest over) (names_of host.vcpus)
+    → IsHostText (host_section (sections_of input)) host
+    → RefusesHost R words old new (status.NoRoom vcpu rest over) host
+refused_by R Leaves words old new input (NoCommand place) vcpu rest over host consumed h same is = absurd cc
+refused_by R Leaves words old new input (SourceFailed command) vcpu rest over host consumed h same is = absurd cc
+refused_by R Leaves words old new input (TooMuch command) vcpu rest over host consumed h same is = absurd cc
+refused_by R Leaves words old new input (LacksMemory command) vcpu rest over host consumed h same is = absurd cc
+refused_by R Leaves words old new input (Replied command outcome) vcpu rest over host consumed h same is = record {
+  command = command;
+  words_are = h.0;
+  input = input;
+  read = record { consumed = consumed; read = h.1 };
+  is_host = is;
+  replies = subst (R command input) same h.2;
+}
+
+-- a refusal hands on its host if it is one for room
+refused_hands : (R : Command → List ℕ → CallOutcome → Type 0) (Leaves : Due → List ℕ → Type 0) (words : List (List ℕ))
+    (source source' : SourceView) (refusal : Status) (host : Option Host)
+    → IsReplyTo R Leaves words source source' (Err (stop.Refused refusal host))
+    → HandsHost R words source source' refusal (handed refusal host)
+refused_hands R Leaves words source source' (status.NoRoom vcpu rest over) None is = is.has_host
+refused_hands R Leaves words source source' (status.NoRoom vcpu rest over) (Some host) is =
+    refused_by R Leaves words source source' is.input is.due vcpu rest over host is.consumed is.is_due is.same is.has_host
+refused_hands R Leaves words source source' other host is = refl
+
+-- what comes whole of a reply hands on its host if that is a refusal for room
+reply_hands : (R : Command → List ℕ → CallOutcome → Type 0) (Leaves : Due → List ℕ → Type 0) (words : List (List ℕ))
+    (source source' : SourceView) (reply : Result Text Stop) → IsReplyTo R Leaves words source source' reply
+    → HandsHost R words source source' (status_of (outcome_in reply)) (handed (status_of (outcome_in reply)) (host_in reply))
+reply_hands R Leaves words source source' (Ok text) is = refl
+reply_hands R Leaves words source source' (Err (stop.Refused refusal host)) is =
+    refused_hands R Leaves words source source' refusal host is
+reply_hands R Leaves words source source' (Err stop.NoMemory) is = refl
+
+-- what was written of a reply hands on its host if that is a refusal for room
+told_hands : (R : Command → List ℕ → CallOutcome → Type 0) (Leaves : Due → List ℕ → Type 0) (words : List (List ℕ))
+    (source source' : SourceView) (sink sink' : SinkView) (told : Status) (reply : Result Text Stop)
+    → IsReplyTo R Leaves words source source' reply → WritesReply sink sink' (outcome_in reply) told
+    → HandsHost R words source source' told (handed told (host_in reply))
+told_hands R Leaves words source source' sink sink' told reply is written = elim written.whole [
+  | inl came ↦ subst (λ t. HandsHost R words source source' t (handed t (host_in reply))) (sym came.0)
+      (reply_hands R Leaves words source source' reply is)
+  | inr failed ↦ subst (λ t. HandsHost R words source source' t (handed t (host_in reply))) (sym failed.0) refl
+]
+
+-- the call replies, writes and hands on a host, and no more
+pub ended_of : (R : Command → List ℕ → CallOutcome → Type 0) (Leaves : Due → List ℕ → Type 0) (words : List (List ℕ))
+    (source source' : SourceView) (sink sink' : SinkView) (told : Status) (host : Option Host)
+    (reply : Result Text Stop) → IsReplyTo R Leaves words source source' reply
+    → WritesReply sink sink' (outcome_in reply) told → host ≡ handed told (host_in reply)
+    → AnswersWith R Leaves words source source' sink sink' told host
+ended_of R Leaves words source source' sink sink' told host reply is written same = record {
+  answers = answers_of R Leaves words source source' sink sink' told reply is written;
+  hands = subst (HandsHost R words source source' told) (sym same)
+      (told_hands R Leaves words source source' sink sink' told reply is written);
 }
 
 -- words that are no command: nothing is read
@@ -54,6 +122,7 @@ usage_reply R Leaves words source place fault still = record {
   is_due = (fault, refl, still);
   same = refl;
   writable = tt {0};
+  has_host = tt {0};
 }
 
 -- a command that has read what it wants: what it makes of that is due
@@ -62,7 +131,7 @@ pub made_reply : (R : Command → List ℕ → CallOutcome → Type 0) (Leaves :
     → IsCommand words command → Consumes old.rest new.rest input → old.faults ≤ new.faults
     → HasReadIf (reads command) new input → MayHaveReadIf (reads command) input
     → (reply ≡ Err stop.NoMemory → (takes_memory command ≡ true) × Leaves (LacksMemory command) input)
-    → Makes (R command input) reply → IsReplyTo R Leaves words old new reply
+    → Makes (R command input) (host_section (sections_of input)) reply → IsReplyTo R Leaves words old new reply
 made_reply R Leaves words old new command input (Ok text) are consumed later read part lacks h = record {
   input = input;
   consumed = consumed;
@@ -71,6 +140,7 @@ made_reply R Leaves words old new command input (Ok text) are consumed later rea
   is_due = (are, read, h.0);
   same = refl;
   writable = h.1;
+  has_host = tt {0};
 }
 made_reply R Leaves words old new command input (Err (stop.Refused refusal host)) are consumed later read part
     lacks h = record {
@@ -78,9 +148,10 @@ made_reply R Leaves words old new command input (Err (stop.Refused refusal host)
       consumed = consumed;
       later = later;
       due = Replied command (outcome_in (Err (stop.Refused refusal host)));
-      is_due = (are, read, h);
+      is_due = (are, read, h.0);
       same = refl;
       writable = tt {0};
+      has_host = h.1;
     }
 made_reply R Leaves words old new command input (Err stop.NoMemory) are consumed later read part lacks h = record {
   input = input;
@@ -90,13 +161,14 @@ made_reply R Leaves words old new command input (Err stop.NoMemory) are consumed
   is_due = (are, (lacks refl).0, part, (lacks refl).1);
   same = refl;
   writable = tt {0};
+  has_host = tt {0};
 }
 
 -- a command that reads nothing
 pub unread_reply : (R : Command → List ℕ → CallOutcome → Type 0) (Leaves : Due → List ℕ → Type 0) (words : List (List ℕ))
     (source : SourceView) (command : Command) (reply : Result Text Stop) → IsCommand words command
     → reads command ≡ false → (reply ≡ Err stop.NoMemory → (takes_memory command ≡ true) × Leaves (LacksMemory command) [])
-    → Makes (R command []) reply → IsReplyTo R Leaves words source source reply
+    → Makes (R command []) (host_section (sections_of [])) reply → IsReplyTo R Leaves words source source reply
 unread_reply R Leaves words source command reply are still lacks h =
     made_reply R Leaves words source source command [] reply are (Consumes-nil source.rest) (omega arith)
     (subst (λ b. HasReadIf b source []) (sym still) refl) (subst (λ b. MayHaveReadIf b []) (sym still) refl)
@@ -123,7 +195,8 @@ reads_unless other still no_help no_version no_gen = refl
 pub input_reply : (R : Command → List ℕ → CallOutcome → Type 0) (Leaves : Due → List ℕ → Type 0) (words : List (List ℕ))
     (old new : SourceView) (command : Command) (input : List ℕ) (reply : Result Text Stop)
     → IsCommand words command → reads command ≡ true → HasInput old new input
-    → (reply ≡ Err stop.NoMemory → Leaves (LacksMemory command) input) → Makes (R command input) reply
+    → (reply ≡ Err stop.NoMemory → Leaves (LacksMemory command) input)
+    → Makes (R command input) (host_section (sections_of input)) reply
     → IsReplyTo R Leaves words old new reply
 input_reply R Leaves words old new command input reply are reading has lacks h =
     made_reply R Leaves words old new command input reply are has.consumed has.later
@@ -145,6 +218,7 @@ stop_due R Leaves words old new command input why are reading still consumed lat
       is_due = (are, reading, short, rose, sound, still (SourceFailed command));
       same = refl;
       writable = tt {0};
+      has_host = tt {0};
     }
 stop_due R Leaves words old new command input why are reading still consumed later
     (HasNoInput.TooLong long) = record {
@@ -155,6 +229,7 @@ stop_due R Leaves words old new command input why are reading still consumed lat
       is_due = (are, reading, long, still (TooMuch command));
       same = refl;
       writable = tt {0};
+      has_host = tt {0};
     }
 stop_due R Leaves words old new command input why are reading still consumed later HasNoInput.Lacks =
     let part = subst (λ b. MayHaveReadIf b input) (sym reading) (tt {0}) in
@@ -166,6 +241,7 @@ stop_due R Leaves words old new command input why are reading still consumed lat
       is_due = (are, reading_takes command reading, part, still (LacksMemory command));
       same = refl;
       writable = tt {0};
+      has_host = tt {0};
     }
 
 -- a command that got no input
@@ -179,17 +255,19 @@ no_input_reply R Leaves words old new command why are reading still stops =
 
 -- what is made of the sections is made of the input, where they are as many as wanted
 pub made_of_sections : (n : ℕ) (P : List (List ℕ) → CallOutcome → Type 0) (input : List ℕ)
-    (reply : Result Text Stop) → length (sections_of input) ≡ n → Makes (P (sections_of input)) reply
-    → Makes (OfSections n P input) reply
+    (reply : Result Text Stop) → length (sections_of input) ≡ n
+    → Makes (P (sections_of input)) (host_section (sections_of input)) reply
+    → Makes (OfSections n P input) (host_section (sections_of input)) reply
 made_of_sections n P input (Ok text) size h = (Sectioned _ size h.0, h.1)
-made_of_sections n P input (Err (stop.Refused refusal host)) size h = Sectioned _ size h
+made_of_sections n P input (Err (stop.Refused refusal host)) size h = (Sectioned _ size h.0, h.1)
 made_of_sections n P input (Err stop.NoMemory) size h = tt {0}
 
 -- the refusal of the number of sections is made of the input, where they aren't as many as wanted
 pub off_sections : (n : ℕ) (P : List (List ℕ) → CallOutcome → Type 0) (input : List ℕ) (why : Stop)
-    → IsOff n input why → Makes (OfSections n P input) (Err why)
-off_sections n P input why is = subst (λ w. Makes (OfSections n P input) (Err w)) (sym is.why_is)
-    (BadSections _ refl is.off)
+    → IsOff n input why → Makes (OfSections n P input) (host_section (sections_of input)) (Err why)
+off_sections n P input why is =
+    subst (λ w. Makes (OfSections n P input) (host_section (sections_of input)) (Err w)) (sym is.why_is)
+    (BadSections _ refl is.off, tt {0})
 
 -- ---- reading
 

@@ -1,5 +1,5 @@
 -- The replies of a run: what is made of what was prepared, and what is due then.
-use Rattle.std.proofs.Common.{◌≡◌, ℕ, ◌<◌, true, List, [], ◌++◌, length, None, Some, Result, Ok, Err, refl, sym, ap, ◌∙◌, subst, arith}
+use Rattle.std.proofs.Common.{◌≡◌, ℕ, ◌<◌, true, List, [], ◌++◌, length, Option, None, Some, Result, Ok, Err, refl, sym, ap, ◌∙◌, subst, arith}
 use Rattle.std.proofs.lemmas.Option.{slice_get_within}
 use Rattle.std.specs.Prelude.{IfErr, IfOk}
 use Rattle.tab_core.specs.declared.host.Host.{Host}
@@ -36,16 +36,17 @@ use Rattle.tableau_sim.specs.declared.commands.run.Ready.TheVariants as readied
 use Rattle.tableau_sim.specs.declared.reply.Stop.{Stop}
 use Rattle.tableau_sim.specs.declared.reply.Stop.TheVariants as stop
 use Rattle.tableau_sim.specs.declared.reply.Text.{Text}
-use Rattle.tableau_sim.specs.Inside.Reply.{CanBeWritten, HasInput, IsReadyTo, IsReplyTo, Makes, MakesOnSeat}
+use Rattle.tableau_sim.specs.declared.status.Status.{Status}
+use Rattle.tableau_sim.specs.Inside.Reply.{CanBeWritten, HasInput, HasItsHost, IsReadyTo, IsReplyTo, KeepsHost, Makes, MakesOnSeat, names_in}
 use Rattle.tableau_sim.specs.Inside.Running.{HasBurstRoom, IsPrepared, IsReady, IsReadyOf, IsTest, RunsPrepared, head_of}
 use Rattle.tableau_sim.specs.Inside.Stops.{run_stop}
 use Rattle.tableau_sim.specs.Outcomes.{CallOutcome}
-use Rattle.tableau_sim.specs.Outcomes.CallOutcome.{Writes}
+use Rattle.tableau_sim.specs.Outcomes.CallOutcome.{Refuses, Writes}
 use Rattle.tableau_sim.specs.Replay.{HasScript}
 use Rattle.tableau_sim.specs.Run.{Runs, RunsWhole, text_of_run}
 use Rattle.tableau_sim.specs.Seats.{IsStillIfRefused, LeavesRun, LeavesSeat, OnSeat}
 use Rattle.tableau_sim.specs.Selftest.{Selftests}
-use Rattle.tableau_sim.specs.Sections.{OfSections}
+use Rattle.tableau_sim.specs.Sections.{OfSections, host_section}
 use Rattle.tableau_sim.specs.Sections.OfSections.{Sectioned}
 use Rattle.tableau_sim.proofs.ReplyLemmas.{input_reply, unread_reply}
 use Rattle.tableau_sim.proofs.SeatsLemmas.{run_left}
@@ -59,10 +60,11 @@ can_be_written P Q old new (Ok text) makes = makes.1
 can_be_written P Q old new (Err why) makes = tt {0}
 
 -- why there is no text, over a seat that is as it was
-pub stops_on_seat : (P : CallOutcome → Type 0) (Q : Type 0) (old new : View) (why : Stop) → new ≡ old → Q
-    → Makes P (Err why) → MakesOnSeat P Q old new (Err why)
-stops_on_seat P Q old new (stop.Refused refusal host) same left makes = (makes, same)
-stops_on_seat P Q old new stop.NoMemory same left makes = left
+pub stops_on_seat : (P : CallOutcome → Type 0) (Q : Type 0) (section : List ℕ) (old new : View) (why : Stop)
+    → new ≡ old → Q
+    → Makes P section (Err why) → MakesOnSeat P Q old new (Err why)
+stops_on_seat P Q section old new (stop.Refused refusal host) same left makes = (makes.0, same)
+stops_on_seat P Q section old new stop.NoMemory same left makes = left
 
 -- a reply on a seat is one for all that have its outcomes and what it leaves
 made_as : (P P' : CallOutcome → Type 0) (Q Q' : Type 0) (old new : View) (reply : Result Text Stop)
@@ -73,11 +75,12 @@ made_as P P' Q Q' old new (Err (stop.Refused refusal host)) made left makes = (m
 made_as P P' Q Q' old new (Err stop.NoMemory) made left makes = left makes
 
 -- a reply on a seat by what the frame asks of each reply
-on_seat : (P : CallOutcome → Type 0) (Q : Type 0) (old new : View) (reply : Result Text Stop)
-    → MakesOnSeat P Q old new reply → Makes (λ outcome. P outcome × IsStillIfRefused old new outcome) reply
-on_seat P Q old new (Ok text) makes = ((makes.0, tt {0}), makes.1)
-on_seat P Q old new (Err (stop.Refused refusal host)) makes = makes
-on_seat P Q old new (Err stop.NoMemory) makes = tt {0}
+on_seat : (P : CallOutcome → Type 0) (Q : Type 0) (section : List ℕ) (old new : View) (reply : Result Text Stop)
+    → MakesOnSeat P Q old new reply → HasItsHost section reply
+    → Makes (λ outcome. P outcome × IsStillIfRefused old new outcome) section reply
+on_seat P Q section old new (Ok text) makes has = ((makes.0, tt {0}), makes.1)
+on_seat P Q section old new (Err (stop.Refused refusal host)) makes has = (makes, has)
+on_seat P Q section old new (Err stop.NoMemory) makes has = tt {0}
 
 -- what it leaves where memory ran out
 left_on_seat : (P : CallOutcome → Type 0) (Q : Type 0) (old new : View) (reply : Result Text Stop)
@@ -91,31 +94,32 @@ pub run_reply : (rounds : ℕ) (mode : RunMode) (old new : View) (words : List (
     (input : List ℕ) (reply : Result Text Stop) → IsCommand words (called.Run rounds mode)
     → HasInput source source' input → length (sections_of input) ≡ 2
     → MakesOnSeat (Runs rounds mode new (sections_of input)) (LeavesRun rounds mode old new (sections_of input)) old new reply
+    → HasItsHost (host_section (sections_of input)) reply
     → IsReplyTo (OnSeat old new) (LeavesSeat old new) words source source' reply
-run_reply rounds mode old new words source source' input reply are has two makes =
+run_reply rounds mode old new words source source' input reply are has two makes its =
     let P = Runs rounds mode new (sections_of input) in
     let P' = OfSections 2 (Runs rounds mode new) input in
     let Q = LeavesRun rounds mode old new (sections_of input) in
     input_reply (OnSeat old new) (LeavesSeat old new) words source source' (called.Run rounds mode) input reply are refl
-    has (left_on_seat P Q old new reply makes) (on_seat P' Q old new reply
-    (made_as P P' Q Q old new reply (λ outcome made. Sectioned outcome two made) (λ left. left) makes))
+    has (left_on_seat P Q old new reply makes) (on_seat P' Q (host_section (sections_of input)) old new reply
+    (made_as P P' Q Q old new reply (λ outcome made. Sectioned outcome two made) (λ left. left) makes) its)
 
 -- a run that is refused leaves the seat as it was
-still_stop : (rounds : ℕ) (mode : RunMode) (view : View) (input : List ℕ) (why : Stop)
-    → Makes (OfSections 2 (Runs rounds mode view) input) (Err why)
-    → Makes (OnSeat view view (called.Run rounds mode) input) (Err why)
-still_stop rounds mode view input (stop.Refused refusal host) h = (h, refl)
-still_stop rounds mode view input stop.NoMemory h = tt {0}
+still_stop : (rounds : ℕ) (mode : RunMode) (view : View) (input section : List ℕ) (why : Stop)
+    → Makes (OfSections 2 (Runs rounds mode view) input) section (Err why)
+    → Makes (OnSeat view view (called.Run rounds mode) input) section (Err why)
+still_stop rounds mode view input section (stop.Refused refusal host) h = ((h.0, refl), h.1)
+still_stop rounds mode view input section stop.NoMemory h = tt {0}
 
 -- why an input isn't run is due after it
 stop_reply : (rounds : ℕ) (mode : RunMode) (view : View) (words : List (List ℕ)) (source source' : SourceView)
     (input : List ℕ) (why : Stop) → IsCommand words (called.Run rounds mode) → HasInput source source' input
-    → Makes (OfSections 2 (Runs rounds mode view) input) (Err why)
+    → Makes (OfSections 2 (Runs rounds mode view) input) (host_section (sections_of input)) (Err why)
     → IsReplyTo (OnSeat view view) (LeavesSeat view view) words source source' (Err why)
 stop_reply rounds mode view words source source' input why are has makes =
     input_reply (OnSeat view view) (LeavesSeat view view) words source source' (called.Run rounds mode) input (Err why)
     are refl has (λ lacks. run_left rounds mode view view (sections_of input) refl)
-    (still_stop rounds mode view input why makes)
+    (still_stop rounds mode view input (host_section (sections_of input)) why makes)
 
 -- what was made of an input that was read is ready for it
 pub ready_read : (rounds : ℕ) (mode : RunMode) (old new : SourceView) (input : List ℕ) (made : Result Ready Stop)
@@ -126,12 +130,27 @@ ready_read rounds mode old new input (Err why) has is = tt {0}
 -- why nothing was made of it is due after it
 pub stop_read : (rounds : ℕ) (mode : RunMode) (old new : SourceView) (input : List ℕ) (made : Result Ready Stop)
     → HasInput old new input
-    → IfErr made (λ why. (view : View) → Makes (OfSections 2 (Runs rounds mode view) input) (Err why))
+    → IfErr made (λ why. (view : View)
+    → Makes (OfSections 2 (Runs rounds mode view) input) (host_section (sections_of input)) (Err why))
     → IfErr made (λ why. (words : List (List ℕ)) (view : View) → IsCommand words (called.Run rounds mode)
     → IsReplyTo (OnSeat view view) (LeavesSeat view view) words old new (Err why))
 stop_read rounds mode old new input (Ok prepared) has stops = tt {0}
 stop_read rounds mode old new input (Err why) has stops =
     λ words view are. stop_reply rounds mode view words old new input why are has (stops view)
+
+-- `selftest` refuses no host
+tests_keep : (seed : ℕ) (view : View) (outcome : CallOutcome) (section : List ℕ) (refusal : Status) (host : Option Host)
+    → Selftests seed view outcome → outcome ≡ Refuses refusal (names_in host) → KeepsHost section refusal host
+tests_keep seed view outcome section refusal host (Selftests.Tested made book report is of whole reports) same =
+    absurd cc
+
+-- a self test has no host that is refused for room
+tests_have : (seed : ℕ) (Q : Type 0) (old new : View) (section : List ℕ) (reply : Result Text Stop)
+    → MakesOnSeat (Selftests seed new) Q old new reply → HasItsHost section reply
+tests_have seed Q old new section (Ok text) makes = tt {0}
+tests_have seed Q old new section (Err (stop.Refused refusal host)) makes =
+    tests_keep seed new _ section refusal host makes.0 refl
+tests_have seed Q old new section (Err stop.NoMemory) makes = tt {0}
 
 -- what is made of a seed is due, and nothing is read
 pub test_reply : (seed : ℕ) (old new : View) (words : List (List ℕ)) (source : SourceView) (reply : Result Text Stop)
@@ -140,7 +159,8 @@ pub test_reply : (seed : ℕ) (old new : View) (words : List (List ℕ)) (source
 test_reply seed old new words source reply are makes =
     unread_reply (OnSeat old new) (LeavesSeat old new) words source (called.Selftest seed) reply are refl
     (λ lacks. (refl, left_on_seat (Selftests seed new) (new ≡ old) old new reply makes lacks))
-    (on_seat (Selftests seed new) (new ≡ old) old new reply makes)
+    (on_seat (Selftests seed new) (new ≡ old) (host_section (sections_of [])) old new reply makes
+    (tests_have seed (new ≡ old) old new (host_section (sections_of [])) reply makes))
 
 -- ---- what is made of what was prepared
 
@@ -162,6 +182,23 @@ prepared_reply rounds mode old new sections run reply is makes = made_as _ _ _ _
     (λ outcome made. prepared_runs rounds mode new sections run.host run.script run.book is.2 is.0.book outcome
     (subst (λ seed. RunsPrepared rounds mode seed run.host run.script run.book new outcome) is.1 made))
     (run_left rounds mode old new sections) makes
+
+-- a run that was prepared is refused for its trace alone
+prepared_keeps : (rounds : ℕ) (mode : RunMode) (seed : Option ℕ) (host : Host) (events : List Event) (book : BookView)
+    (view : View) (section : List ℕ) (refusal : Status) (names : List (List ℕ)) (named : Option Host)
+    → RunsPrepared rounds mode seed host events book view (Refuses refusal names) → KeepsHost section refusal named
+prepared_keeps rounds mode seed host events book view section refusal names named (RunsPrepared.TraceTooLong bound long) =
+    tt {0}
+
+-- a run that was prepared has no host that is refused for room
+pub prepared_has : (rounds : ℕ) (mode : RunMode) (run : Prepared) (Q : Type 0) (old new : View) (section : List ℕ)
+    (reply : Result Text Stop)
+    → MakesOnSeat (RunsPrepared rounds mode run.seed run.host run.script run.book new) Q old new reply
+    → HasItsHost section reply
+prepared_has rounds mode run Q old new section (Ok text) makes = tt {0}
+prepared_has rounds mode run Q old new section (Err (stop.Refused refusal host)) makes =
+    prepared_keeps rounds mode run.seed run.host run.script run.book new section refusal (names_in host) host makes.0
+prepared_has rounds mode run Q old new section (Err stop.NoMemory) makes = tt {0}
 
 -- what is made of a seed's host without an event is what `selftest` makes of the seed
 prepared_tests : (seed : ℕ) (view : View) (host : Host) (book : BookView) → IsGenerated seed 8 64 host

@@ -1,6 +1,7 @@
 -- The calls with a seat: what they share with those without one, and what a run's `Ok` tells.
 use Rattle.tab_words.specs.declared.command.Usage.{Usage}
-use Rattle.std.proofs.Common.{◌≡◌, ℕ, List, Result, Ok, false, refl, inl}
+use Rattle.std.proofs.Common.{◌≡◌, ℕ, List, Option, None, Some, Result, Ok, false, refl, inl}
+use Rattle.tab_core.specs.declared.host.Host.{Host}
 use Rattle.tab_io.specs.Views.{SourceView, SinkView}
 use Rattle.tab_words.specs.Commands.{IsCommand}
 use Rattle.tab_words.specs.declared.command.Command.{Command}
@@ -20,7 +21,8 @@ use Rattle.tableau_sim.specs.Run.{Runs}
 use Rattle.tableau_sim.specs.Seats.{HasRun, HasTested, LeavesRun, LeavesSeat, OnSeat}
 use Rattle.tableau_sim.specs.Sections.{OfSections}
 use Rattle.tableau_sim.specs.Sections.OfSections.{BadSections, Sectioned}
-use Rattle.tableau_sim.specs.Clauses.{WroteFor}
+use Rattle.tableau_sim.specs.Clauses.{HandsHost, WroteFor}
+use Rattle.tableau_sim.specs.Inside.Reply.{AnswersWith}
 use Rattle.tab_words.specs.Sections.{sections_of}
 use Rattle.std.specs.Io.KnownBytes.{Consumes}
 use Rattle.tableau_sim.specs.Selftest.{Selftests}
@@ -95,7 +97,7 @@ due_with_seat view words old new input (Replied command outcome) still h =
     (h.0, h.1, left_alone view command input outcome (still command h.0) h.2)
 
 -- the answer with a seat is that without one
-pub answers_with_seat : (view : View) (words : List (List ℕ)) (source source' : SourceView)
+answers_with_seat : (view : View) (words : List (List ℕ)) (source source' : SourceView)
     (sink sink' : SinkView) (told : Status) → AreStill words
     → Answers Replies LeavesNothing words source source' sink sink' told
     → Answers (OnSeat view view) (LeavesSeat view view) words source source' sink sink' told
@@ -106,6 +108,31 @@ answers_with_seat view words source source' sink sink' told still a = record {
   due = a.due;
   is_due = due_with_seat view words source source' a.input a.due still a.is_due;
   written = a.written;
+}
+
+-- what is handed on without a seat is handed on with one that is left
+hands_with_seat : (view : View) (words : List (List ℕ)) (source source' : SourceView) (told : Status)
+    (host : Option Host) → AreStill words → HandsHost Replies words source source' told host
+    → HandsHost (OnSeat view view) words source source' told host
+hands_with_seat view words source source' (status.NoRoom vcpu rest over) None still h = h
+hands_with_seat view words source source' (status.NoRoom vcpu rest over) (Some host) still h = record {
+  command = h.command;
+  words_are = h.words_are;
+  input = h.input;
+  read = h.read;
+  is_host = h.is_host;
+  replies = left_alone view h.command h.input _ (still h.command h.words_are) h.replies;
+}
+hands_with_seat view words source source' other host still h = h
+
+-- the call with a seat that is left ends as that without one
+pub ended_with_seat : (view : View) (words : List (List ℕ)) (source source' : SourceView) (sink sink' : SinkView)
+    (told : Status) (host : Option Host) → AreStill words
+    → AnswersWith Replies LeavesNothing words source source' sink sink' told host
+    → AnswersWith (OnSeat view view) (LeavesSeat view view) words source source' sink sink' told host
+ended_with_seat view words source source' sink sink' told host still a = record {
+  answers = answers_with_seat view words source source' sink sink' told still a.answers;
+  hands = hands_with_seat view words source source' told host still a.hands;
 }
 
 -- ---- what `Ok` of a run tells

@@ -4,6 +4,7 @@ ghost use Rattle.tab_words.specs.Sections.{sections_of};
 ghost use Rattle.tableau_sim.specs.Columns.{reads};
 ghost use Rattle.tableau_sim.specs.Commands.{AreStill, IsStillCommand, LeavesNothing, Replies};
 ghost use Rattle.tableau_sim.specs.Inside.Reply.{HasGoodNumbers, HasInput, IsOff, IsReplyTo, Makes, StopsReading};
+ghost use Rattle.tableau_sim.specs.Sections.{host_section};
 ghost use Rattle.tableau_sim.specs.declared.input.TheConstants.{INPUT_LIMIT};
 
 use crate::commands::check::check_reply;
@@ -60,7 +61,7 @@ fn reply_to_input(alloc: Global, command: Command, input: &[u8]) -> Reply
     requires still { IsStillCommand command }
     requires reads { reads command ≡ true }
     requires short { length input.now ≤ INPUT_LIMIT }
-    ensures { Makes (Replies command input.now) result }
+    ensures { Makes (Replies command input.now) (host_section (sections_of input.now)) result }
 {
     match command {
         Command::Plan => plan_reply(alloc, input),

@@ -2,7 +2,7 @@ ghost use Rattle.std.specs.Prelude.{◌≡◌};
 ghost use Rattle.tab_io.specs.Sinks.{Writes};
 ghost use Rattle.tab_io.specs.Views.{SinkView};
 ghost use Rattle.vcpu_names.specs.Names.{names_of};
-ghost use Rattle.tableau_sim.specs.Inside.Reply.{CanBeWritten, IsWritable, bytes_of, names_in, outcome_in};
+ghost use Rattle.tableau_sim.specs.Inside.Reply.{CanBeWritten, IsWritable, bytes_of, handed, host_in, names_in, outcome_in};
 ghost use Rattle.tableau_sim.specs.Frame.{WritesReply};
 ghost use Rattle.tableau_sim.specs.Outcomes.{CallOutcome, status_of, text_of_outcome};
 
@@ -17,13 +17,27 @@ use replay_text::write_replay;
 use tab_core::{Host, Vcpu};
 use tab_io::{Put, Sink, WriteFault, write_all};
 
-// Writes what is due and settles it.
-pub(crate) fn write_reply<K: Sink>(output: &mut K, reply: RunReply<'_>) -> Status
+// Writes what is due and settles it, and hands on the host of a refusal for room.
+pub(crate) fn write_reply<K: Sink>(output: &mut K, reply: RunReply<'_>) -> (Status, Option<Host>)
     requires { CanBeWritten reply }
-    ensures { WritesReply (K.state output.old) (K.state output.new) (outcome_in reply.entry) result }
+    ensures written { WritesReply (K.state output.old) (K.state output.new) (outcome_in reply.entry) result.0 }
+    ensures host { result.1 ≡ handed result.0 (host_in reply.entry) }
 {
     let put = put_reply(output, &reply);
-    settle(output, put, status_in(reply))
+    let (due, host) = parts_of(reply);
+    let status = settle(output, put, due);
+    let host = handed(&status, host);
+    (status, host)
+}
+
+// The host that is handed on with this status.
+fn handed(status: &Status, host: Option<Host>) -> Option<Host>
+    ensures { result ≡ handed status.now host }
+{
+    match status {
+        Status::NoRoom { .. } => host,
+        _ => None,
+    }
 }
 
 // Settles a text that was put, if that came whole, and says how it ended: done, or with a write fault.
@@ -84,12 +98,14 @@ fn vcpus_in(host: &Option<Host>) -> &[Vcpu]
     }
 }
 
-fn status_in(reply: RunReply<'_>) -> Status
-    ensures { result ≡ status_of (outcome_in reply.entry) }
+// The status of what is due, and the host of a refusal.
+fn parts_of(reply: RunReply<'_>) -> (Status, Option<Host>)
+    ensures status { result.0 ≡ status_of (outcome_in reply.entry) }
+    ensures host { result.1 ≡ host_in reply.entry }
 {
     match reply {
-        Ok(_) => Status::Ok,
-        Err(Stop::Refused { status, .. }) => status,
-        Err(Stop::NoMemory) => Status::NoMemory,
+        Ok(_) => (Status::Ok, None),
+        Err(Stop::Refused { status, host }) => (status, host),
+        Err(Stop::NoMemory) => (Status::NoMemory, None),
     }
 }

@@ -2,8 +2,9 @@
 use Rattle.std.specs.Prelude.{◌≡◌, ◌≢◌, ℕ, ◌+◌, ◌<◌, ◌≤◌, ◌^◌, true, List, [], ◌++◌, codes, length, Option, Some, None, Result, Ok, Err}
 use Rattle.std.specs.Io.KnownBytes.{Consumes, IsAtEnd}
 use Rattle.tab_core.specs.declared.host.Host.{Host}
+use Rattle.host_doc.specs.Document.{IsHostText}
 use Rattle.tab_io.specs.FaultCounts.{Rose}
-use Rattle.tab_io.specs.Views.{SourceView}
+use Rattle.tab_io.specs.Views.{SinkView, SourceView}
 use Rattle.tab_words.specs.Commands.{IsGenerable, IsRoundCount}
 use Rattle.tab_words.specs.Sections.{sections_of}
 use Rattle.tab_words.specs.declared.command.Command.{Command}
@@ -29,12 +30,15 @@ use Rattle.tableau_sim.specs.declared.reply.Stop.{Stop}
 use Rattle.tableau_sim.specs.declared.reply.Stop.TheVariants as stop
 use Rattle.tableau_sim.specs.declared.reply.Text.{Text}
 use Rattle.tableau_sim.specs.declared.reply.Text.TheVariants as written
+use Rattle.tableau_sim.specs.declared.status.Status.{Status}
 use Rattle.tableau_sim.specs.declared.status.Status.TheVariants as status
 use Rattle.tableau_sim.specs.declared.input.TheConstants.{INPUT_LIMIT}
-use Rattle.tableau_sim.specs.Frame.{Due, IsDue, outcome_of}
+use Rattle.tableau_sim.specs.Clauses.{HandsHost}
+use Rattle.tableau_sim.specs.Frame.{Answers, Due, IsDue, outcome_of}
 use Rattle.tableau_sim.specs.Inside.Running.{IsReady, head_of}
 use Rattle.tableau_sim.specs.Outcomes.{CallOutcome}
 use Rattle.tableau_sim.specs.Outcomes.CallOutcome.{Refuses, Writes}
+use Rattle.tableau_sim.specs.Sections.{host_section}
 
 -- the bytes of a text
 abbrev pub bytes_of : Text → List ℕ
@@ -67,11 +71,25 @@ abbrev pub names_in : Option Host → List (List ℕ)
 names_in None = []
 names_in (Some host) = names_of host.vcpus
 
--- the reply is an outcome of which P holds, and can be written; or memory ran out
-abbrev pub Makes : (CallOutcome → Type 0) → Result Text Stop → Type 0
-Makes P (Ok text) = P (Writes (bytes_of text)) × IsWritable text
-Makes P (Err (stop.Refused refusal host)) = P (Refuses refusal (names_in host))
-Makes P (Err stop.NoMemory) = Unit {0}
+-- a refusal for room has the host of this section
+abbrev pub KeepsHost : List ℕ → Status → Option Host → Type 0
+KeepsHost section (status.NoRoom vcpu rest over) None = ⊥
+KeepsHost section (status.NoRoom vcpu rest over) (Some host) = IsHostText section host
+KeepsHost section refusal host = Unit {0}
+
+-- a reply that refuses for room has the host of this section
+abbrev pub HasItsHost : List ℕ → Result Text Stop → Type 0
+HasItsHost section (Ok text) = Unit {0}
+HasItsHost section (Err (stop.Refused refusal host)) = KeepsHost section refusal host
+HasItsHost section (Err stop.NoMemory) = Unit {0}
+
+-- the reply is an outcome of which P holds, and can be written, or has the host of this section if it refuses for
+-- room; or memory ran out
+abbrev pub Makes : (CallOutcome → Type 0) → List ℕ → Result Text Stop → Type 0
+Makes P section (Ok text) = P (Writes (bytes_of text)) × IsWritable text
+Makes P section (Err (stop.Refused refusal host)) =
+    P (Refuses refusal (names_in host)) × KeepsHost section refusal host
+Makes P section (Err stop.NoMemory) = Unit {0}
 
 -- the reply of a run is an outcome of which P holds, and leaves the seat's view as it was if that is a refusal; or
 -- memory ran out, which leaves Q
@@ -85,6 +103,17 @@ abbrev pub outcome_in : Result Text Stop → CallOutcome
 outcome_in (Ok text) = Writes (bytes_of text)
 outcome_in (Err (stop.Refused refusal host)) = Refuses refusal (names_in host)
 outcome_in (Err stop.NoMemory) = Refuses status.NoMemory []
+
+-- the host that a reply has, if it refuses with one
+abbrev pub host_in : Result Text Stop → Option Host
+host_in (Ok text) = None
+host_in (Err (stop.Refused refusal host)) = host
+host_in (Err stop.NoMemory) = None
+
+-- the host that is handed on where the call ends with this status: that of a refusal for room
+abbrev pub handed : Status → Option Host → Option Host
+handed (status.NoRoom vcpu rest over) host = host
+handed told host = None
 
 abbrev pub CanBeWritten : Result Text Stop → Type 0
 CanBeWritten (Ok text) = IsWritable text
@@ -100,6 +129,14 @@ pub record IsReplyTo (R : Command → List ℕ → CallOutcome → Type 0) (Leav
   pub is_due : IsDue R Leaves words old new input due
   pub same : outcome_of due ≡ outcome_in reply
   pub writable : CanBeWritten reply
+  pub has_host : HasItsHost (host_section (sections_of input)) reply
+
+-- the whole call, and the host that it hands on
+pub record AnswersWith (R : Command → List ℕ → CallOutcome → Type 0) (Leaves : Due → List ℕ → Type 0)
+    (words : List (List ℕ)) (source source' : SourceView) (sink sink' : SinkView) (told : Status)
+    (host : Option Host) : Type 0 where
+  pub answers : Answers R Leaves words source source' sink sink' told
+  pub hands : HandsHost R words source source' told host
 
 -- this is the whole input, within the limit
 pub record HasInput (old new : SourceView) (input : List ℕ) : Type 0 where

@@ -1,9 +1,10 @@
 ghost use Rattle.std.specs.Prelude.{◌≡◌, ◌<◌, ◌≤◌, ◌^◌, ℕ, [], length, slice_index_or, true};
+ghost use Rattle.tab_words.specs.Sections.{sections_of};
 ghost use Rattle.tableau_sim.specs.declared.input.TheConstants.{INPUT_LIMIT};
 ghost use Rattle.tableau_sim.specs.Check.{Checks};
 ghost use Rattle.tableau_sim.specs.Inside.Passing.{IsGoodText};
 ghost use Rattle.tableau_sim.specs.Inside.Reply.{Makes};
-ghost use Rattle.tableau_sim.specs.Sections.{OfSections};
+ghost use Rattle.tableau_sim.specs.Sections.{OfSections, host_section};
 
 use crate::input::cut;
 use crate::reply::{Reply, Stop, Text, stopped};
@@ -19,7 +20,7 @@ use table_check::{RowChecks, first_fault};
 // The reply of `check` to its input.
 pub(crate) fn check_reply(alloc: Global, input: &[u8]) -> Reply
     requires { length input.now ≤ INPUT_LIMIT }
-    ensures { Makes (OfSections 2 Checks input.now) result }
+    ensures { Makes (OfSections 2 Checks input.now) (host_section (sections_of input.now)) result }
 {
     match cut(input, 2) {
         Ok(sections) => check_of(alloc, &sections),
@@ -34,7 +35,7 @@ const LONG_TEXT: usize = 400_000;
 fn check_of(alloc: Global, sections: &Sections) -> Reply
     requires two { length sections.now ≡ 2 }
     requires short { (i : ℕ) → length (slice_index_or sections.now i []) < 2 ^ 32 }
-    ensures { Makes (Checks sections.now) result }
+    ensures { Makes (Checks sections.now) (host_section sections.now) result }
 {
     let host = match host_of(alloc, sections.part(0)) {
         Ok(host) => host,

@@ -1,8 +1,9 @@
 ghost use Rattle.std.specs.Prelude.{◌≡◌, ◌≤◌, length};
+ghost use Rattle.tab_words.specs.Sections.{sections_of};
 ghost use Rattle.tableau_sim.specs.declared.input.TheConstants.{INPUT_LIMIT};
 ghost use Rattle.tableau_sim.specs.Inside.Reply.{Makes};
 ghost use Rattle.tableau_sim.specs.Plan.{Plans};
-ghost use Rattle.tableau_sim.specs.Sections.{OfSections};
+ghost use Rattle.tableau_sim.specs.Sections.{OfSections, host_section};
 
 use crate::input::cut;
 use crate::reply::{Reply, Text};
@@ -14,7 +15,7 @@ use tab_words::Sections;
 // The reply of `plan` to its input.
 pub(crate) fn plan_reply(alloc: Global, input: &[u8]) -> Reply
     requires { length input.now ≤ INPUT_LIMIT }
-    ensures { Makes (OfSections 1 Plans input.now) result }
+    ensures { Makes (OfSections 1 Plans input.now) (host_section (sections_of input.now)) result }
 {
     match cut(input, 1) {
         Ok(sections) => plan_of(alloc, &sections),
@@ -24,7 +25,7 @@ pub(crate) fn plan_reply(alloc: Global, input: &[u8]) -> Reply
 
 fn plan_of(alloc: Global, sections: &Sections) -> Reply
     requires { length sections.now ≡ 1 }
-    ensures { Makes (Plans sections.now) result }
+    ensures { Makes (Plans sections.now) (host_section sections.now) result }
 {
     let host = match host_of(alloc, sections.part(0)) {
         Ok(host) => host,

@@ -19,6 +19,7 @@ ghost use Rattle.tableau_sim.specs.Inside.Reply.{Makes, MakesOnSeat};
 ghost use Rattle.tableau_sim.specs.Inside.Running.{HasBurstRoom, IsPrepared, RunsPrepared, head_of};
 ghost use Rattle.tableau_sim.specs.Replay.{HasScript};
 ghost use Rattle.tableau_sim.specs.Run.{Runs};
+ghost use Rattle.tableau_sim.specs.Sections.{host_section};
 
 use crate::commands::selftest::put_seed;
 use crate::reply::{RunReply, Stop, Text};
@@ -62,7 +63,7 @@ pub(crate) fn prepare(
     ensures prepared { IfOk result (IsPrepared rounds) }
     ensures parts { IfOk result (λ run. (run.seed ≡ None) × (run.host ≡ host) × (run.script ≡ script)) }
     ensures stop { IfErr result (λ stop. (mode : Mode) (view : ViewValue) (sections : List (List ℕ))
-        → HasScript rounds sections host script → Makes (Runs rounds mode view sections) (Err stop)) }
+        → HasScript rounds sections host script → Makes (Runs rounds mode view sections) (host_section sections) (Err stop)) }
 {
     let book = match make_book(alloc, &host, &script) {
         Ok(book) => book,

@@ -2,9 +2,10 @@ ghost use Rattle.std.specs.Prelude.{◌≡◌, ◌<◌, ◌≤◌, ◌^◌, ℕ,
 ghost use Rattle.script_doc.specs.Script.{AreInRun, AreWithin};
 ghost use Rattle.script_doc.specs.Steps.{IsStepWithin};
 ghost use Rattle.tab_words.specs.Commands.{IsRoundCount};
+ghost use Rattle.tab_words.specs.Sections.{sections_of};
 ghost use Rattle.tableau_sim.specs.Inside.Reply.{Makes};
 ghost use Rattle.tableau_sim.specs.Replay.{HasReplayInput, Replays};
-ghost use Rattle.tableau_sim.specs.Sections.{OfSections};
+ghost use Rattle.tableau_sim.specs.Sections.{OfSections, host_section};
 ghost use Rattle.tableau_sim.specs.declared.input.TheConstants.{INPUT_LIMIT};
 
 use crate::input::cut;
@@ -22,7 +23,7 @@ use tab_words::Sections;
 pub(crate) fn replay_reply(alloc: Global, rounds: u32, input: &[u8]) -> Reply
     requires within { length input.now ≤ INPUT_LIMIT }
     requires rounds { IsRoundCount rounds }
-    ensures { Makes (OfSections 3 (Replays rounds) input.now) result }
+    ensures { Makes (OfSections 3 (Replays rounds) input.now) (host_section (sections_of input.now)) result }
 {
     match cut(input, 3) {
         Ok(sections) => replay_of(alloc, rounds, &sections),
@@ -34,7 +35,7 @@ fn replay_of(alloc: Global, rounds: u32, sections: &Sections) -> Reply
     requires three { length sections.now ≡ 3 }
     requires short { (i : ℕ) → length (slice_index_or sections.now i []) < 2 ^ 32 }
     requires rounds { IsRoundCount rounds }
-    ensures { Makes (Replays rounds sections.now) result }
+    ensures { Makes (Replays rounds sections.now) (host_section sections.now) result }
 {
     let (host, script) = match script_of(alloc, rounds, sections) {
         Ok(read) => read,
@@ -57,7 +58,7 @@ fn replay_of_parts(alloc: Global, rounds: u32, host: Host, script: Script, list:
     ensures { (sections : List (List ℕ))
         → HasReplayInput rounds sections
         (record { host = host; events = script; steps = list.steps; lines = list.lines })
-        → Makes (Replays rounds sections) result }
+        → Makes (Replays rounds sections) (host_section sections) result }
 {
     let book = match make_book(alloc, &host, &script) {
         Ok(book) => book,

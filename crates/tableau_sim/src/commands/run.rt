@@ -5,12 +5,12 @@ ghost use Rattle.tab_words.specs.declared.command.Command.TheVariants as called;
 ghost use Rattle.round_words.specs.declared.view.View.{View as ViewValue};
 ghost use Rattle.round_words.specs.Seats.{view_of, IsSeatOf};
 ghost use Rattle.round_words.specs.Views.{unstarted};
-ghost use Rattle.tableau_sim.specs.Frame.{Answers};
-ghost use Rattle.tableau_sim.specs.Inside.Reply.{IsReadyTo, IsReplyTo, Makes};
+ghost use Rattle.tab_words.specs.Sections.{sections_of};
+ghost use Rattle.tableau_sim.specs.Inside.Reply.{AnswersWith, IsReadyTo, IsReplyTo, Makes};
 ghost use Rattle.tableau_sim.specs.Inside.Running.{IsReady};
 ghost use Rattle.tableau_sim.specs.Run.{Runs};
 ghost use Rattle.tableau_sim.specs.Seats.{LeavesSeat, OnSeat};
-ghost use Rattle.tableau_sim.specs.Sections.{OfSections};
+ghost use Rattle.tableau_sim.specs.Sections.{OfSections, host_section};
 ghost use Rattle.tableau_sim.specs.declared.input.TheConstants.{INPUT_LIMIT};
 
 use crate::call::Done;
@@ -53,28 +53,24 @@ pub(crate) fn run<R: Threads + Wait + Sync, S: Source, K: Sink, G: Gate>(
     requires opening { view_of seat ≡ unstarted }
     ensures board { IsSeatOf stage.now.board.now result.seat }
     ensures answers { (words : List (List ℕ)) → IsCommand words (called.Run rounds mode)
-        → Answers (OnSeat (view_of seat) (view_of result.seat)) (LeavesSeat (view_of seat) (view_of result.seat)) words
-        (S.state input.old) (S.state input.new) (K.state output.old) (K.state output.new) result.status }
+        → AnswersWith (OnSeat (view_of seat) (view_of result.seat)) (LeavesSeat (view_of seat) (view_of result.seat)) words
+        (S.state input.old) (S.state input.new) (K.state output.old) (K.state output.new) result.status result.host }
 {
     match ready_to_run(stage.alloc, rounds, mode, input) {
         Ok(Ready::Prepared(prepared)) => {
             let (seat, reply) = run_prepared(stage, rounds, mode, &prepared, seat);
-            Done {
-                status: write_reply(output, reply),
-                seat,
-            }
+            let (status, host) = write_reply(output, reply);
+            Done { status, seat, host }
         }
         Ok(Ready::Beside { host, script }) => {
             let (seat, reply) = run_beside(stage, rounds, host, script, seat);
-            Done {
-                status: write_reply(output, reply),
-                seat,
-            }
+            let (status, host) = write_reply(output, reply);
+            Done { status, seat, host }
         }
-        Err(stop) => Done {
-            status: write_reply(output, Err(stop)),
-            seat,
-        },
+        Err(stop) => {
+            let (status, host) = write_reply(output, Err(stop));
+            Done { status, seat, host }
+        }
     }
 }
 
@@ -110,7 +106,7 @@ fn ready_for(alloc: Global, rounds: u32, mode: RunMode, input: &[u8]) -> Result<
     requires few { rounds ≤ MAX_ROUNDS }
     ensures ok { IfOk result (IsReady rounds mode input.now) }
     ensures stop { IfErr result (λ stop. (view : ViewValue)
-        → Makes (OfSections 2 (Runs rounds mode view) input.now) (Err stop)) }
+        → Makes (OfSections 2 (Runs rounds mode view) input.now) (host_section (sections_of input.now)) (Err stop)) }
 {
     let sections = match cut(input, 2) {
         Ok(sections) => sections,

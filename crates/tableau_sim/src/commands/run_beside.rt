@@ -4,10 +4,11 @@ ghost use Rattle.tab_words.specs.declared.command.RunMode.TheVariants.{Live};
 ghost use Rattle.script_doc.specs.Script.{AreInRun, AreWithin};
 ghost use Rattle.round_words.specs.Seats.{view_of, IsSeatOf};
 ghost use Rattle.round_words.specs.Views.{unstarted};
-ghost use Rattle.tableau_sim.specs.Inside.Reply.{MakesOnSeat};
+ghost use Rattle.tableau_sim.specs.Inside.Reply.{HasItsHost, MakesOnSeat};
 ghost use Rattle.tableau_sim.specs.Replay.{HasScript};
 ghost use Rattle.tableau_sim.specs.Run.{Runs};
 ghost use Rattle.tableau_sim.specs.Seats.{LeavesRun};
+ghost use Rattle.tableau_sim.specs.Sections.{host_section};
 
 use crate::reply::{Reply, Text};
 use crate::stage::Stage;
@@ -38,6 +39,8 @@ pub(crate) fn run_beside<R: Threads + Wait + Sync, G: Gate>(
     ensures makes { (sections : List (List ℕ)) → HasScript rounds sections host script
         → MakesOnSeat (Runs rounds Live (view_of result.0) sections)
         (LeavesRun rounds Live (view_of seat) (view_of result.0) sections) (view_of seat) (view_of result.0) result.1 }
+    ensures host { (sections : List (List ℕ)) → HasScript rounds sections host script
+        → HasItsHost (host_section sections) result.1 }
 {
     match run_script(
         stage.rt,

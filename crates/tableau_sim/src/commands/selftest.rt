@@ -5,7 +5,7 @@ ghost use Rattle.tab_words.specs.Commands.{IsCommand};
 ghost use Rattle.tab_words.specs.declared.command.Command.TheVariants as called;
 ghost use Rattle.round_words.specs.Seats.{view_of, IsSeatOf};
 ghost use Rattle.round_words.specs.Views.{unstarted};
-ghost use Rattle.tableau_sim.specs.Frame.{Answers};
+ghost use Rattle.tableau_sim.specs.Inside.Reply.{AnswersWith};
 ghost use Rattle.tableau_sim.specs.Inside.Running.{IsTest};
 ghost use Rattle.tableau_sim.specs.Seats.{LeavesSeat, OnSeat};
 ghost use Rattle.tableau_sim.specs.Selftest.{selftest_line};
@@ -38,21 +38,19 @@ pub(crate) fn selftest<R: Threads + Sync, K: Sink, G: Gate>(
     requires opening { view_of seat ≡ unstarted }
     ensures board { IsSeatOf stage.now.board.now result.seat }
     ensures answers { (words : List (List ℕ)) (source : SourceView) → IsCommand words (called.Selftest seed)
-        → Answers (OnSeat (view_of seat) (view_of result.seat)) (LeavesSeat (view_of seat) (view_of result.seat)) words
-        source source (K.state output.old) (K.state output.new) result.status }
+        → AnswersWith (OnSeat (view_of seat) (view_of result.seat)) (LeavesSeat (view_of seat) (view_of result.seat)) words
+        source source (K.state output.old) (K.state output.new) result.status result.host }
 {
     match prepare_test(stage.alloc, seed) {
         Ok(prepared) => {
             let (seat, reply) = run_prepared(stage, 4, RunMode::Report, &prepared, seat);
-            Done {
-                status: write_reply(output, reply),
-                seat,
-            }
+            let (status, host) = write_reply(output, reply);
+            Done { status, seat, host }
         }
-        Err(_) => Done {
-            status: write_reply(output, Err(Stop::NoMemory)),
-            seat,
-        },
+        Err(_) => {
+            let (status, host) = write_reply(output, Err(Stop::NoMemory));
+            Done { status, seat, host }
+        }
     }
 }
 

@@ -1,25 +1,17 @@
 use Rattle.std.proofs.Common.{refl}
 use Rattle.std.proofs.lemmas.Option.{MatchOption-at_none, MatchOption-at_some}
 use Rattle.advice.specs.Advice.{IsRoomText, TellsRoom}
-use Rattle.advice.proofs.AgainLemmas.{no_host_is_told, no_task_is_told}
-use Rattle.advice.proofs.WritesLemmas.{tells_nothing, tells_tasks, writes_such}
+use Rattle.advice.proofs.AgainLemmas.{no_budget_is_told}
+use Rattle.advice.proofs.WritesLemmas.{tells_budgets, tells_nothing, writes_such}
 use Rattle.advice.proofs.hosts.put_no_room.Goals as goal
 
-pub returns-in_default : goal.returns-in_default
-returns-in_default g c =
-    let none = MatchOption-at_none _ _ c.in_default.is c.in_ok-host.ensures.found in
-    tells_nothing (IsRoomText c.args.section.now) _ (no_host_is_told c.args.section.now TellsRoom none)
+pub returns-in-Some : goal.returns-in-Some
+returns-in-Some g c =
+    let are_tasks = MatchOption-at_some _ _ c.in-Some.tasks c.in-Some.is c.in_ok-tasks.ensures.found in
+    rw c.of_sink.ensures (tells_budgets TellsRoom c.args.host.now c.in-Some.tasks _ _ _ are_tasks
+    (writes_such (TellsRoom c.args.host.now c.in-Some.tasks) _ _ _ _ refl c.put_room_of.ensures))
 
-pub returns-in-Some-2 : goal.returns-in-Some-2
-returns-in-Some-2 g c =
-    let is_host = MatchOption-at_some _ _ c.in-Some.host c.in-Some.is c.in_ok-host.ensures.found in
-    let are_tasks = MatchOption-at_some _ _ c.in-Some-2.tasks c.in-Some-2.is c.in_ok-tasks.ensures.found in
-    rw c.of_sink.ensures (tells_tasks c.args.section.now TellsRoom c.in-Some.host c.in-Some-2.tasks _ _ _
-    is_host are_tasks (writes_such (TellsRoom c.in-Some.host c.in-Some-2.tasks) _ _ _ _ refl c.put_room_of.ensures))
-
-pub returns : goal.returns
-returns g c =
-    let is_host = MatchOption-at_some _ _ c.in-Some.host c.in-Some.is c.in_ok-host.ensures.found in
+pub returns-in-None : goal.returns-in-None
+returns-in-None g c =
     let none = MatchOption-at_none _ _ c.in-None.is c.in_ok-tasks.ensures.found in
-    tells_nothing (IsRoomText c.args.section.now) _
-    (no_task_is_told c.args.section.now TellsRoom c.in-Some.host is_host none)
+    tells_nothing (IsRoomText c.args.host.now) _ (no_budget_is_told TellsRoom c.args.host.now none)

@@ -1,6 +1,6 @@
 use Rattle.std.proofs.Common.{List, ℕ, subst}
 use Rattle.tab_words.specs.Commands.{texts}
-use Rattle.advice.specs.Advice.{IsLineAdvice, IsNoRoomAdvice, IsPeriodText, WhereThereIs, WritesSome}
+use Rattle.advice.specs.Advice.{IsLineAdvice, IsPeriodText, WhereThereIs, WritesSome}
 use Rattle.advice.specs.Lines.{section_at}
 use Rattle.advice.proofs.write.write_advice.Goals as goal
 
@@ -11,10 +11,7 @@ returns-in-NoPeriod g c = rw c.in-NoPeriod.is (subst
     c.section_at-in-NoPeriod.ensures c.put_no_period.ensures)
 
 pub returns-in-NoRoom : goal.returns-in-NoRoom
-returns-in-NoRoom g c = rw c.in-NoRoom.is (subst
-    (λ (section : List ℕ). WritesSome (IsNoRoomAdvice (texts c.args.words.now) section)
-    (g.K.Sink.state c.args.sink.now) (g.K.Sink.state c.put_room_advice.new.sink) c.put_room_advice.result)
-    c.section_at-in-NoRoom.ensures c.put_room_advice.ensures)
+returns-in-NoRoom g c = rw c.in-NoRoom.is c.put_room_advice.ensures
 
 pub returns-in-BadPlanLine : goal.returns-in-BadPlanLine
 returns-in-BadPlanLine g c =

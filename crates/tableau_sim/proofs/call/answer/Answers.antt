@@ -1,7 +1,7 @@
 use Rattle.std.proofs.Common.{subst, rules}
 use Rattle.tab_words.specs.Commands.{IsCommand, texts}
 use Rattle.tableau_sim.specs.Commands.{AreStill}
-use Rattle.tableau_sim.proofs.SeatsLemmas.{answers_with_seat, still_words}
+use Rattle.tableau_sim.proofs.SeatsLemmas.{ended_with_seat, still_words}
 use Rattle.tableau_sim.proofs.call.answer.Goals as goal
 
 pub returns-in-Ok-Run-clause-answers : goal.returns-in-Ok-Run-clause-answers
@@ -16,5 +16,5 @@ pub returns-in_default-clause-answers : goal.returns-in_default-clause-answers
 returns-in_default-clause-answers g c =
     let still : AreStill (texts c.args.words.now) = still_words (texts c.args.words.now) c.read_words.result
     c.read_words.ensures.due (search rules) (search rules) in
-    answers_with_seat c.args.seat.view (texts c.args.words.now) _ _ _ _ c.tableau_still.result still
-    c.tableau_still.ensures.answers
+    ended_with_seat c.args.seat.view (texts c.args.words.now) _ _ _ _ c.answer_still-status.result.0
+    c.answer_still-status.result.1 still c.answer_still-status.ensures

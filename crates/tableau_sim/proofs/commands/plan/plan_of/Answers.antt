@@ -1,6 +1,7 @@
 use Rattle.std.proofs.Common.{ap, Err}
 use Rattle.plan_promises.proofs.ReservationsLemmas.{kept_by_rows}
 use Rattle.tableau_sim.specs.Plan.{Plans}
+use Rattle.tableau_sim.specs.Sections.{host_section}
 use Rattle.tableau_sim.proofs.StopsLemmas.{host_stopped, plan_stopped}
 use Rattle.tableau_sim.proofs.commands.plan.plan_of.Goals as goal
 
@@ -28,7 +29,8 @@ returns-in-Ok-plan c = (
 
 pub returns-in-Err-plan : goal.returns-in-Err-plan
 returns-in-Err-plan c = rw c.stop_of_plan.ensures
-    (plan_stopped (Plans c.args.sections.now) c.in-Ok.host c.in-Err-plan.fault
+    (plan_stopped (Plans c.args.sections.now) (host_section c.args.sections.now) c.in-Ok.host c.in-Err-plan.fault
+    (rw c.part.ensures at c.in-Ok.ensures.ok)
     (λ vcpu e. Plans.NoPeriod c.in-Ok.host vcpu (rw c.part.ensures at c.in-Ok.ensures.ok)
     (c.in-Err-plan.ensures.no_period vcpu (ap Err e)))
     (λ vcpu rest over e. Plans.NoRoom c.in-Ok.host vcpu rest over (rw c.part.ensures at c.in-Ok.ensures.ok)

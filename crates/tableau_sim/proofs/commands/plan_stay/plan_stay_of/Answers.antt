@@ -1,6 +1,7 @@
 use Rattle.std.proofs.Common.{ap, Err}
 use Rattle.plan_promises.proofs.ReservationsLemmas.{kept_by_rows}
 use Rattle.tableau_sim.specs.PlanStay.{HasOldHomes, PlansStaying}
+use Rattle.tableau_sim.specs.Sections.{host_section}
 use Rattle.tableau_sim.proofs.StopsLemmas.{host_stopped, plan_stopped}
 use Rattle.tableau_sim.proofs.commands.plan_stay.plan_stay_of.Goals as goal
 
@@ -10,9 +11,11 @@ returns-in-Err c = host_stopped (PlansStaying c.args.sections.now) _ _ (λ bad i
 
 pub returns-in-Err-BadLine : goal.returns-in-Err-BadLine
 returns-in-Err-BadLine c =
-    rw (c.stopped.ensures, c.in-Err-BadLine.field-0-is)
-    (PlansStaying.BadLine c.in-Ok.host c.in-Err-BadLine.line (rw c.part.ensures at c.in-Ok.ensures.ok)
-    (rw c.part-2.ensures at (c.in-Err-BadLine.ensures.bad_line c.in-Err-BadLine.line (ap Err c.in-Err-BadLine.field-0-is))))
+    rw (c.stopped.ensures, c.in-Err-BadLine.field-0-is) (
+      PlansStaying.BadLine c.in-Ok.host c.in-Err-BadLine.line (rw c.part.ensures at c.in-Ok.ensures.ok)
+          (rw c.part-2.ensures at (c.in-Err-BadLine.ensures.bad_line c.in-Err-BadLine.line (ap Err c.in-Err-BadLine.field-0-is))),
+      tt {0},
+    )
 
 pub returns-in-Ok-plan_staying : goal.returns-in-Ok-plan_staying
 returns-in-Ok-plan_staying c =
@@ -43,7 +46,8 @@ returns c =
       old = rw c.part-2.ensures at c.in-Ok-read_old_homes.ensures.ok;
     } in
     rw c.stop_of_plan.ensures
-    (plan_stopped (PlansStaying c.args.sections.now) c.in-Ok.host c.in-Err-plan_staying.fault
+    (plan_stopped (PlansStaying c.args.sections.now) (host_section c.args.sections.now) c.in-Ok.host
+    c.in-Err-plan_staying.fault old.is_host
     (λ vcpu e. PlansStaying.NoPeriod c.in-Ok.host c.in-Ok-read_old_homes.homes.items vcpu old
     (c.in-Err-plan_staying.ensures.no_period vcpu (ap Err e)))
     (λ vcpu rest over e. PlansStaying.NoRoom c.in-Ok.host c.in-Ok-read_old_homes.homes.items vcpu rest over old

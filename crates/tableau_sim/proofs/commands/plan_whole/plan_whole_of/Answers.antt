@@ -1,6 +1,7 @@
 use Rattle.std.proofs.Common.{ap, Err}
 use Rattle.plan_promises.proofs.ReservationsLemmas.{kept_by_rows}
 use Rattle.tableau_sim.specs.PlanWhole.{PlansWhole}
+use Rattle.tableau_sim.specs.Sections.{host_section}
 use Rattle.tableau_sim.proofs.StopsLemmas.{host_stopped, whole_stopped}
 use Rattle.tableau_sim.proofs.commands.plan_whole.plan_whole_of.Goals as goal
 
@@ -28,7 +29,8 @@ returns-in-Ok-plan_whole g c = (
 
 pub returns : goal.returns
 returns g c = rw c.stop_of_whole.ensures
-    (whole_stopped (PlansWhole c.args.sections.now) c.in-Ok.host c.in-Err-plan_whole.fault
+    (whole_stopped (PlansWhole c.args.sections.now) (host_section c.args.sections.now) c.in-Ok.host
+    c.in-Err-plan_whole.fault
     (λ vcpu e. PlansWhole.NoPeriod c.in-Ok.host vcpu (rw c.part.ensures at c.in-Ok.ensures.ok)
     (c.in-Err-plan_whole.ensures.no_period vcpu (ap Err e)))
     (λ demand room e. PlansWhole.NoFit c.in-Ok.host demand room (rw c.part.ensures at c.in-Ok.ensures.ok)

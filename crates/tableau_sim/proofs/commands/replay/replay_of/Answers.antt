@@ -10,9 +10,11 @@ returns-in-Err c = script_stopped (Replays c.args.rounds c.args.sections.now) c.
 
 pub returns-in-Err-BadLine : goal.returns-in-Err-BadLine
 returns-in-Err-BadLine c =
-    rw (c.stopped.ensures, c.in-Err-BadLine.field-0-is)
-    (Replays.BadStep c.in-Ok.read.0 c.in-Ok.read.1 c.in-Err-BadLine.line c.in-Ok.ensures.ok
-    (rw c.part.ensures at (c.in-Err-BadLine.ensures.bad_line c.in-Err-BadLine.line (ap Err c.in-Err-BadLine.field-0-is))))
+    rw (c.stopped.ensures, c.in-Err-BadLine.field-0-is) (
+      Replays.BadStep c.in-Ok.read.0 c.in-Ok.read.1 c.in-Err-BadLine.line c.in-Ok.ensures.ok
+          (rw c.part.ensures at (c.in-Err-BadLine.ensures.bad_line c.in-Err-BadLine.line (ap Err c.in-Err-BadLine.field-0-is))),
+      tt {0},
+    )
 
 pub returns : goal.returns
 returns c = c.replay_of_parts.ensures c.args.sections.now (record {

@@ -6,13 +6,14 @@ use Rattle.step_machine.specs.Refusals.{IsFaultOf, IsRefused}
 use Rattle.tableau_sim.specs.Replay.{Replays}
 use Rattle.plan_promises.proofs.RunsLemmas.{run_keeps}
 use Rattle.step_machine.proofs.GivenSteps.{each_names_core, place_in}
+use Rattle.tableau_sim.specs.Sections.{host_section}
 use Rattle.tableau_sim.proofs.StopsLemmas.{plan_stopped}
 use Rattle.tableau_sim.proofs.commands.replay.replay_of_parts.Goals as goal
 
 pub returns-in-Err : goal.returns-in-Err
 returns-in-Err c = λ sections read.
     rw c.stop_of_plan.ensures
-    (plan_stopped (Replays c.args.rounds sections) c.args.host c.in-Err.fault
+    (plan_stopped (Replays c.args.rounds sections) (host_section sections) c.args.host c.in-Err.fault read.script.is_host
     (λ vcpu e. Replays.NoPeriod _ vcpu read (c.in-Err.ensures.no_period vcpu (ap Err e)))
     (λ vcpu rest over e. Replays.NoRoom _ vcpu rest over read
     (c.in-Err.ensures.no_room vcpu rest over (ap Err e))))
@@ -65,13 +66,15 @@ returns-in-Err-Refused c = λ sections read.
     let low : c.in-Err-Refused.place < length c.args.list.lines =
     place_in c.in-Ok.book.course c.args.rounds c.args.list.steps c.args.list.lines c.in-Err-Refused.place
     c.in-Err-Refused.answer c.args.list.one_line_each refused in
-    rw (c.stopped.ensures, c.items-in-Err-Refused.ensures)
-    (Replays.StepRefused _ _ c.in-Err-Refused.answer read (record {
-      course = c.in-Ok.book.course;
-      course_is = c.in-Ok.ensures.ok.course;
-      course_kept = rw c.course.ensures at (c.in-Err-Refused.ensures.refused_course c.in-Err-Refused.place
-          c.in-Err-Refused.answer (ap Err c.in-Err-Refused.field-0-is));
-      place = c.in-Err-Refused.place;
-      on_line = slice_get-get_or c.args.list.lines c.in-Err-Refused.place 0 low;
-      refused = refused;
-    }))
+    rw (c.stopped.ensures, c.items-in-Err-Refused.ensures) (
+      Replays.StepRefused _ _ c.in-Err-Refused.answer read (record {
+        course = c.in-Ok.book.course;
+        course_is = c.in-Ok.ensures.ok.course;
+        course_kept = rw c.course.ensures at (c.in-Err-Refused.ensures.refused_course c.in-Err-Refused.place
+            c.in-Err-Refused.answer (ap Err c.in-Err-Refused.field-0-is));
+        place = c.in-Err-Refused.place;
+        on_line = slice_get-get_or c.args.list.lines c.in-Err-Refused.place 0 low;
+        refused = refused;
+      }),
+      tt {0},
+    )

@@ -2,6 +2,7 @@ use Rattle.std.proofs.Common.{Err, arith, subst}
 use Rattle.tab_words.proofs.SectionSizeLemmas.{section_size}
 use Rattle.tableau_sim.specs.Inside.Reply.{Makes}
 use Rattle.tableau_sim.specs.Run.{Runs}
+use Rattle.tableau_sim.specs.Sections.{host_section}
 use Rattle.tableau_sim.proofs.ReplyLemmas.{made_of_sections, off_sections}
 use Rattle.tableau_sim.proofs.StopsLemmas.{script_stopped}
 use Rattle.tableau_sim.proofs.commands.run.ready_for.Goals as goal
@@ -18,7 +19,7 @@ returns-in-Err-script_of-clause-stop c = λ view.
     let why = c.in-Err-script_of.stop in
     let P = Runs c.args.rounds c.args.mode view c.in-Ok.sections in
     made_of_sections 2 (Runs c.args.rounds c.args.mode view) c.args.input.now (Err why) c.in-Ok.ensures.wanted
-    (subst (λ s. Makes (Runs c.args.rounds c.args.mode view s) (Err why)) c.in-Ok.ensures.ok
+    (subst (λ s. Makes (Runs c.args.rounds c.args.mode view s) (host_section s) (Err why)) c.in-Ok.ensures.ok
     (script_stopped P c.args.rounds c.in-Ok.sections why (λ bad is. Runs.BadHost bad is)
     (λ host bad is faulty. Runs.BadScript host bad is faulty) c.in-Err-script_of.ensures.stop))
 
@@ -26,5 +27,5 @@ pub returns-in-Err-prepare-clause-stop : goal.returns-in-Err-prepare-clause-stop
 returns-in-Err-prepare-clause-stop c = λ view.
     let why = c.in-Err-prepare.stop in
     made_of_sections 2 (Runs c.args.rounds c.args.mode view) c.args.input.now (Err why) c.in-Ok.ensures.wanted
-    (subst (λ s. Makes (Runs c.args.rounds c.args.mode view s) (Err why)) c.in-Ok.ensures.ok
+    (subst (λ s. Makes (Runs c.args.rounds c.args.mode view s) (host_section s) (Err why)) c.in-Ok.ensures.ok
     (c.in-Err-prepare.ensures.stop c.args.mode view c.in-Ok.sections c.in-Ok-script_of.ensures.ok))

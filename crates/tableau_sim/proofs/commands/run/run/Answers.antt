@@ -5,10 +5,11 @@ use Rattle.tableau_sim.specs.Inside.Reply.{IsReadyTo}
 use Rattle.tableau_sim.specs.Inside.Running.{RunsPrepared}
 use Rattle.tableau_sim.specs.Run.{Runs}
 use Rattle.tableau_sim.specs.Seats.{LeavesRun, LeavesSeat, OnSeat}
+use Rattle.tableau_sim.specs.Sections.{host_section}
 use Rattle.tableau_sim.specs.declared.commands.run.Ready.TheVariants as readied
 use Rattle.tableau_sim.proofs.BesideLemmas.{beside_reply}
-use Rattle.tableau_sim.proofs.ReplyLemmas.{answers_of}
-use Rattle.tableau_sim.proofs.RunLemmas.{can_be_written, prepared_reply, run_reply}
+use Rattle.tableau_sim.proofs.ReplyLemmas.{ended_of}
+use Rattle.tableau_sim.proofs.RunLemmas.{can_be_written, prepared_has, prepared_reply, run_reply}
 use Rattle.tableau_sim.proofs.commands.run.run.Goals as goal
 
 pub run_prepared-seat-requires-clause-prepared : goal.run_prepared-seat-requires-clause-prepared
@@ -18,8 +19,8 @@ run_prepared-seat-requires-clause-prepared g c = λ lifetimes outlive.
     subst (IsReadyTo c.args.rounds c.args.mode _ _) arm.field-0-is arm.ensures.ok in
     ready.is.of.0
 
-pub write_reply-requires : goal.write_reply-requires
-write_reply-requires g c =
+pub write_reply-status-requires : goal.write_reply-status-requires
+write_reply-status-requires g c =
     let run = c.in-Ok-Prepared.prepared in
     let old = c.args.seat.view in
     let new = c.run_prepared-seat.result.0.view in
@@ -34,10 +35,13 @@ returns-in-Ok-Prepared-clause-answers g c = λ words are.
     let old = c.args.seat.view in
     let new = c.run_prepared-seat.result.0.view in
     let reply = c.run_prepared-seat.result.1 in
-    answers_of (OnSeat old new) (LeavesSeat old new) words _ _ _ _ c.write_reply.result reply
+    ended_of (OnSeat old new) (LeavesSeat old new) words _ _ _ _ c.write_reply-status.result.0
+    c.write_reply-status.result.1 reply
     (run_reply c.args.rounds c.args.mode old new words _ _ ready.input reply are ready.has ready.is.two
     (prepared_reply c.args.rounds c.args.mode old new (sections_of ready.input) arm.prepared reply ready.is.of
-    c.run_prepared-seat.ensures.makes)) c.write_reply.ensures
+    c.run_prepared-seat.ensures.makes)
+    (prepared_has c.args.rounds c.args.mode arm.prepared (new ≡ old) old new (host_section (sections_of ready.input)) reply
+    c.run_prepared-seat.ensures.makes)) c.write_reply-status.ensures.written c.write_reply-status.ensures.host
 
 pub run_beside-seat-requires-clause-within : goal.run_beside-seat-requires-clause-within
 run_beside-seat-requires-clause-within g c = λ lifetimes outlive.
@@ -53,8 +57,8 @@ run_beside-seat-requires-clause-in_run g c = λ lifetimes outlive.
     subst (IsReadyTo c.args.rounds c.args.mode _ _) arm.field-0-is arm.ensures.ok in
     ready.is.of.2
 
-pub write_reply-requires-in-Ok-Beside : goal.write_reply-requires-in-Ok-Beside
-write_reply-requires-in-Ok-Beside g c =
+pub write_reply-status-requires-in-Ok-Beside : goal.write_reply-status-requires-in-Ok-Beside
+write_reply-status-requires-in-Ok-Beside g c =
     let arm = c.in-Ok-Beside in
     let ready : IsReadyTo c.args.rounds c.args.mode _ _ (readied.Beside arm.host arm.script) =
     subst (IsReadyTo c.args.rounds c.args.mode _ _) arm.field-0-is arm.ensures.ok in
@@ -73,13 +77,16 @@ returns-in-Ok-Beside-clause-answers g c = λ words are.
     let old = c.args.seat.view in
     let new = c.run_beside-seat.result.0.view in
     let reply = c.run_beside-seat.result.1 in
-    answers_of (OnSeat old new) (LeavesSeat old new) words _ _ _ _ c.write_reply-in-Ok-Beside.result reply
+    ended_of (OnSeat old new) (LeavesSeat old new) words _ _ _ _ c.write_reply-status-in-Ok-Beside.result.0
+    c.write_reply-status-in-Ok-Beside.result.1 reply
     (run_reply c.args.rounds c.args.mode old new words _ _ ready.input reply are ready.has ready.is.two
     (beside_reply c.args.rounds c.args.mode old new sections arm.host arm.script reply ready.is.of
-    (c.run_beside-seat.ensures.makes sections ready.is.of.3))) c.write_reply-in-Ok-Beside.ensures
+    (c.run_beside-seat.ensures.makes sections ready.is.of.3)) (c.run_beside-seat.ensures.host sections ready.is.of.3))
+    c.write_reply-status-in-Ok-Beside.ensures.written c.write_reply-status-in-Ok-Beside.ensures.host
 
 pub returns-in-Err-clause-answers : goal.returns-in-Err-clause-answers
 returns-in-Err-clause-answers g c = λ words are.
     let view = c.args.seat.view in
-    answers_of (OnSeat view view) (LeavesSeat view view) words _ _ _ _ c.write_reply-in-Err.result (Err c.in-Err.stop)
-    (c.in-Err.ensures.stop words view are) c.write_reply-in-Err.ensures
+    ended_of (OnSeat view view) (LeavesSeat view view) words _ _ _ _ c.write_reply-status-in-Err.result.0
+    c.write_reply-status-in-Err.result.1 (Err c.in-Err.stop)
+    (c.in-Err.ensures.stop words view are) c.write_reply-status-in-Err.ensures.written c.write_reply-status-in-Err.ensures.host

@@ -3,12 +3,12 @@ use Rattle.tab_words.specs.declared.command.RunMode.TheVariants.{Report}
 use Rattle.tableau_sim.specs.Inside.Running.{RunsPrepared}
 use Rattle.tableau_sim.specs.Seats.{LeavesSeat, OnSeat}
 use Rattle.tableau_sim.specs.declared.reply.Stop.TheVariants as stop
-use Rattle.tableau_sim.proofs.ReplyLemmas.{answers_of}
+use Rattle.tableau_sim.proofs.ReplyLemmas.{ended_of}
 use Rattle.tableau_sim.proofs.RunLemmas.{can_be_written, prepared_test, test_reply}
 use Rattle.tableau_sim.proofs.commands.selftest.selftest.Goals as goal
 
-pub write_reply-requires : goal.write_reply-requires
-write_reply-requires g c =
+pub write_reply-status-requires : goal.write_reply-status-requires
+write_reply-status-requires g c =
     let run = c.in-Ok.prepared in
     let old = c.args.seat.view in
     let new = c.run_prepared-seat.result.0.view in
@@ -20,12 +20,16 @@ returns-in-Ok-clause-answers g c = λ words source are.
     let old = c.args.seat.view in
     let new = c.run_prepared-seat.result.0.view in
     let reply = c.run_prepared-seat.result.1 in
-    answers_of (OnSeat old new) (LeavesSeat old new) words source source _ _ c.write_reply.result reply
+    ended_of (OnSeat old new) (LeavesSeat old new) words source source _ _ c.write_reply-status.result.0
+    c.write_reply-status.result.1 reply
     (test_reply c.args.seed old new words source reply are
-    (prepared_test c.args.seed old new c.in-Ok.prepared reply c.in-Ok.ensures c.run_prepared-seat.ensures.makes)) c.write_reply.ensures
+    (prepared_test c.args.seed old new c.in-Ok.prepared reply c.in-Ok.ensures c.run_prepared-seat.ensures.makes))
+    c.write_reply-status.ensures.written c.write_reply-status.ensures.host
 
 pub returns-in-Err-clause-answers : goal.returns-in-Err-clause-answers
 returns-in-Err-clause-answers g c = λ words source are.
     let view = c.args.seat.view in
-    answers_of (OnSeat view view) (LeavesSeat view view) words source source _ _ c.write_reply-in-Err.result (Err stop.NoMemory)
-    (test_reply c.args.seed view view words source (Err stop.NoMemory) are refl) c.write_reply-in-Err.ensures
+    ended_of (OnSeat view view) (LeavesSeat view view) words source source _ _ c.write_reply-status-in-Err.result.0
+    c.write_reply-status-in-Err.result.1 (Err stop.NoMemory)
+    (test_reply c.args.seed view view words source (Err stop.NoMemory) are refl)
+    c.write_reply-status-in-Err.ensures.written c.write_reply-status-in-Err.ensures.host
