@@ -59,6 +59,19 @@ impl<C: Clock, P: Print> ProgressGate<C, P> {
         }
     }
 
+    // Looks at the clock, where the actor is a core, which is at this tick. It is a function of its own, so that what
+    // each step calls is short.
+    #[cold]
+    #[inline(never)]
+    fn look(&self, actor: u32, place: u32) {
+        if actor >= MAX_CORES {
+            return;
+        }
+        if let Some(begin) = self.begin {
+            self.tell(begin, place);
+        }
+    }
+
     // Tells the round, where that is due, once a core was seen at this clock. Of several threads one tells it.
     fn tell(&self, begin: Instant, clock: u32) {
         let Ok(elapsed) = begin.elapsed(&self.clock) else {
@@ -90,14 +103,14 @@ impl<C: Clock, P: Print> ProgressGate<C, P> {
 }
 
 impl<C: Clock + Sync, P: Print + Sync> Gate for ProgressGate<C, P> {
+    #[inline(always)]
     fn pass(&self, _actor: u32, _step: u64) {}
 
+    #[inline(always)]
     fn reached(&self, actor: u32, step: u64, place: u32) {
-        if step % STRIDE != STRIDE - 1 || actor >= MAX_CORES {
-            return;
-        }
-        if let Some(begin) = self.begin {
-            self.tell(begin, place);
+        // (the sum is what a player counts its steps up to next, so this costs a step one test)
+        if step.wrapping_add(1) % STRIDE == 0 {
+            self.look(actor, place);
         }
     }
 }
