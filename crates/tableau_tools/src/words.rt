@@ -52,6 +52,7 @@ pub(crate) fn diff_words<'w>(matches: &'w ArgMatches<'_>, form: Form) -> DiffWor
 
 /// Does `export`, in the format that the words name.
 pub(crate) fn export(rt: &HostRuntime, matches: &ArgMatches<'_>) -> Result<(), Fault> {
+    suits_format(matches, matches.get_str("FORMAT").unwrap_or(""))?;
     match matches.get_str("FORMAT") {
         Some("rtds") => export_lines(rt, &line_words(matches, LineForm::Rtds)),
         Some("deadline") if matches.get_flag("full") => {
@@ -64,6 +65,30 @@ pub(crate) fn export(rt: &HostRuntime, matches: &ArgMatches<'_>) -> Result<(), F
         Some("json") => export_view(rt, &export_words(matches, Format::Json)),
         _ => export_view(rt, &export_words(matches, Format::Csv)),
     }
+}
+
+// Refuses an option that says nothing of the format.
+fn suits_format(matches: &ArgMatches<'_>, format: &str) -> Result<(), Fault> {
+    let is_view = format == "csv" || format == "chrome" || format == "json";
+    if matches.get_flag("full") && format != "deadline" {
+        return other_format("--full", "deadline");
+    }
+    if matches.get_one::<u32>("first-cpu").is_some() && is_view {
+        return other_format("--first-cpu", "rtds, deadline, cgroup and libvirt");
+    }
+    if matches.get_str("map").is_some() && is_view {
+        return other_format("--map", "rtds, deadline, cgroup and libvirt");
+    }
+    let has_times = format == "chrome" || format == "json";
+    if matches.get_one::<u32>("tick").is_some() && !has_times {
+        return other_format("--tick", "chrome and json");
+    }
+    Ok(())
+}
+
+// Refuses an option that goes with these formats alone.
+fn other_format(option: &'static str, formats: &'static str) -> Result<(), Fault> {
+    Err(Fault::OtherFormat { option, formats })
 }
 
 // The words of `export` for a scheduler.

@@ -9,7 +9,7 @@ use std::alloc::Global;
 use std::collections::BTreeMap;
 use tab_core::NoMemory;
 use tab_words::{Lines, Words, read_number};
-use tool_input::{Fault, Input, input_of};
+use tool_input::{Fault, Input, ends_in_return, input_of};
 
 /// A VM by its number, and the host on which it was.
 #[derive(Clone, Copy)]
@@ -62,8 +62,12 @@ fn stays_in(
     Ok(stays)
 }
 
-// The host and the VM of a line of a placing: no host where the VM was left over.
+// The host and the VM of a line of a placing: no host where the VM was left over. (A carriage return at its end would
+// make another name of the VM's.)
 fn place_of_line(line: &[u8]) -> Option<(Option<u64>, &[u8])> {
+    if ends_in_return(line) {
+        return None;
+    }
     let mut words = Words::of(line);
     let (Some(first), Some(second), Some(third)) = (words.next(), words.next(), words.next()) else {
         return None;

@@ -1,15 +1,16 @@
 ghost use Rattle.std.specs.Prelude.{◌≤◌, length};
 ghost use Rattle.tab_core.specs.declared.TheConstants.{MAX_CORES};
 
-use crate::hosts::{SizeWords, host_fault, text_of};
+use crate::hosts::{SizeWords, host_fault, text_of, unread_sizes};
+use crate::remedy::{Remedy, remedy_of};
 use plan_make::PlanFault;
 use size_fit::{Fit, fit_sizes, write_fit, write_refusal};
 use sizes_doc::{host_of_sizes, read_sizes};
 use tab_core::{Host, MAX_CORES, MAX_TICK_NS, MIN_TICK_NS, TICK_NS};
 use tool_input::{Fault, finish, output_of};
 
-/// Does `fit`: it writes how VMs of sizes fit a host and how many more of each size would, or why they don't fit. It
-/// answers whether they do.
+/// Does `fit`: it writes how VMs of sizes fit a host and how many more of each size would, or why they don't fit, and
+/// on standard error what to do. It answers whether they do.
 pub fn fit(rt: &HostRuntime, words: &SizeWords<'_>) -> Result<bool, Fault> {
     // (the words were refused where the cores or the tick are out of their range)
     let cores = words.cores.unwrap_or(1).clamp(1, MAX_CORES);
@@ -20,7 +21,7 @@ pub fn fit(rt: &HostRuntime, words: &SizeWords<'_>) -> Result<bool, Fault> {
     let text = text_of(rt, words.sizes)?;
     let sizes = match read_sizes(rt.alloc(), &text) {
         Ok(sizes) => sizes,
-        Err(fault) => return Err(Fault::from(fault)),
+        Err(fault) => return Err(unread_sizes(rt.alloc(), &text, fault)),
     };
     let host = match host_of_sizes(rt.alloc(), cores, tick_ns, sizes.as_slice()) {
         Ok(host) => host,
@@ -29,7 +30,14 @@ pub fn fit(rt: &HostRuntime, words: &SizeWords<'_>) -> Result<bool, Fault> {
     match fit_sizes(rt.alloc(), &host, sizes.as_slice()) {
         Ok(fit) => put_fit(rt, &host, &fit),
         Err(PlanFault::NoMemory) => Err(Fault::NoMemory),
-        Err(fault) => put_refusal(rt, &host, &fault),
+        Err(fault) => {
+            put_refusal(rt, &host, &fault)?;
+            // (where memory runs out, the refusal is there alone)
+            if let Ok(remedy) = remedy_of(rt.alloc(), &host, sizes.as_slice(), &fault) {
+                tell_remedy(rt, &remedy);
+            }
+            Ok(false)
+        }
     }
 }
 
@@ -45,9 +53,29 @@ fn put_fit(rt: &HostRuntime, host: &Host, fit: &Fit<'_>) -> Result<bool, Fault>
 }
 
 // Writes why they don't.
-fn put_refusal(rt: &HostRuntime, host: &Host, fault: &PlanFault) -> Result<bool, Fault> {
+fn put_refusal(rt: &HostRuntime, host: &Host, fault: &PlanFault) -> Result<(), Fault> {
     let mut sink = output_of(rt)?;
     write_refusal(&mut sink, host.vcpus.items(), fault)?;
-    finish(&mut sink)?;
-    Ok(false)
+    finish(&mut sink)
+}
+
+// Tells what to do where they don't. (Where the line can't be written, the status says it.)
+fn tell_remedy(rt: &HostRuntime, remedy: &Remedy) {
+    match remedy {
+        Remedy::Cores(cores) => {
+            let _ = eprintln!(rt;
+                "tableau-tools: with --cores {cores} they fit; or take fewer VMs, smaller shares or longer latencies"
+            );
+        }
+        Remedy::Hosts => {
+            let _ = eprintln!(rt;
+                "tableau-tools: no host has cores enough for them: take fewer VMs or smaller shares, or several hosts, as tableau-tools place does"
+            );
+        }
+        Remedy::Latency { name, latency_ns } => {
+            let _ = eprintln!(rt;
+                "tableau-tools: give {name} a latency of {latency_ns}ns or more, or a larger share"
+            );
+        }
+    }
 }

@@ -8,7 +8,7 @@ use script_doc::is_skipped;
 use std::alloc::Global;
 use tab_core::{MAX_CORES, NoMemory};
 use tab_words::{Lines, Words, read_number};
-use tool_input::{Fault, Input, input_of, shown};
+use tool_input::{Fault, Input, ends_in_return, input_of, shown};
 
 /// The most hosts of a fleet.
 pub(crate) const MAX_HOSTS: usize = 65_535;
@@ -122,7 +122,7 @@ fn kind_of(line: &[u8]) -> Option<Kind> {
     })
 }
 
-/// The fault of a line that isn't as it has to be.
+/// The fault of a line that isn't as it has to be, or ends in a carriage return.
 pub(crate) fn bad_line(
     alloc: Global,
     place: String,
@@ -130,6 +130,12 @@ pub(crate) fn bad_line(
     text: &[u8],
     wanted: &'static str,
 ) -> Fault {
+    if ends_in_return(text) {
+        return Fault::Return {
+            place,
+            line: u64::from(line),
+        };
+    }
     match shown(alloc, text) {
         Ok(text) => Fault::BadFleetLine {
             place,

@@ -5,7 +5,7 @@ use host_gen::write_host;
 use sizes_doc::{Size, SizesFault, host_of_sizes, name_in_sizes, read_sizes};
 use std::alloc::Global;
 use tab_core::{Host, MAX_CORES, MAX_TICK_NS, MIN_TICK_NS, TICK_NS};
-use tool_input::{Fault, finish, input_of, output_of, shown};
+use tool_input::{Fault, ends_in_return, finish, input_of, line_of, output_of, shown};
 
 // The most bytes of sizes that are taken from words.
 const ROOM: usize = 1_048_576;
@@ -76,7 +76,21 @@ fn host_from(alloc: Global, text: &[u8], cores: u32, tick_ns: u32) -> Result<Hos
             Ok(host) => Ok(host),
             Err(fault) => Err(host_fault(alloc, sizes.as_slice(), fault)),
         },
-        Err(fault) => Err(Fault::from(fault)),
+        Err(fault) => Err(unread_sizes(alloc, text, fault)),
+    }
+}
+
+/// Why lines aren't read as sizes. Where the first bad one ends in a carriage return, that is said.
+pub(crate) fn unread_sizes(alloc: Global, text: &[u8], fault: SizesFault) -> Fault {
+    let SizesFault::BadSize { line, .. } = fault else {
+        return Fault::from(fault);
+    };
+    match line_of(text, line) {
+        Some(size) if ends_in_return(size) => Fault::Return {
+            place: String::new(alloc),
+            line: u64::from(line),
+        },
+        _ => Fault::from(fault),
     }
 }
 

@@ -8,7 +8,8 @@ use std::io::Read;
 use tab_core::Vcpu;
 use tab_io::StdSource;
 use tool_input::{
-    Fault, Input, finish, host_of, input_of, output_of, place_of, read_once, shown, unread,
+    Fault, Input, ends_in_return, finish, host_of, input_of, output_of, place_of, read_once, shown,
+    unread,
 };
 use view_judge::{is_kept, write_json, write_tables};
 
@@ -75,6 +76,10 @@ fn fault_of(alloc: Global, path: &str, fault: JudgeFault) -> Fault {
         return Fault::NoMemory;
     };
     match fault {
+        JudgeFault::BadLine { line, text } if ends_in_return(&text) => Fault::Return {
+            place,
+            line,
+        },
         JudgeFault::BadLine { line, text } => match shown(alloc, &text) {
             Ok(text) => Fault::BadTraceLine { place, line, text },
             Err(_) => Fault::NoMemory,

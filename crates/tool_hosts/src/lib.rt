@@ -16,6 +16,7 @@ mod judgements;
 mod lines;
 mod map;
 mod place;
+mod remedy;
 mod vms;
 
 pub use fits::fit;

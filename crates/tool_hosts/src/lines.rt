@@ -5,7 +5,9 @@ use crate::map::{rename, renamed, renamings_of};
 use tab_core::Vcpu;
 use tab_io::{Sink, WriteFault};
 use tab_words::cut_sections;
-use tool_input::{Fault, Input, Refusal, finish, host_of, input_beside, output_of, plan_of};
+use tool_input::{
+    Fault, Input, Refusal, cut_in_return, finish, host_of, input_beside, output_of, plan_of,
+};
 use view_doc::View;
 use view_schedulers::{
     Scheduler, Unkept, unkept_of, unlike_of, write_cgroup, write_deadline, write_libvirt,
@@ -59,10 +61,7 @@ pub fn export_lines(rt: &HostRuntime, words: &LineWords<'_>) -> Result<(), Fault
     let Input { place, bytes } = input_beside(rt, words.file, map)?;
     let sections = cut_sections(&bytes);
     if sections.count() != 2 {
-        return Err(Fault::NoHost {
-            place,
-            count: sections.count(),
-        });
+        return Err(no_host(place, &bytes, sections.count()));
     }
     let host = host_of(rt.alloc(), &place, sections.part(0))?;
     let mut view = plan_of(rt.alloc(), &place, sections.part(1))?;
@@ -77,6 +76,14 @@ pub fn export_lines(rt: &HostRuntime, words: &LineWords<'_>) -> Result<(), Fault
     let mut sink = output_of(rt)?;
     put_lines(&mut sink, form, first_cpu, host.tick_ns, &vcpus, &view)?;
     finish(&mut sink)
+}
+
+// The fault of so many sections, which aren't a host and its plan.
+fn no_host(place: String, bytes: &[u8], count: u32) -> Fault {
+    match cut_in_return(bytes) {
+        Some(line) => Fault::Return { place, line },
+        None => Fault::NoHost { place, count },
+    }
 }
 
 // Why the plan isn't put there, if it isn't.

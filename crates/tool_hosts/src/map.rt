@@ -2,7 +2,7 @@ use std::alloc::Global;
 use std::collections::BTreeSet;
 use tab_core::{Name, Vcpu};
 use tab_words::{Lines, Words, read_number};
-use tool_input::{Fault, Input, input_of, shown};
+use tool_input::{Fault, Input, ends_in_return, input_of, shown};
 
 /// The name of a vCPU, and the name that it has for the scheduler of a host.
 #[derive(Drop)]
@@ -29,16 +29,24 @@ pub(crate) fn renamings_of(rt: &HostRuntime, path: Option<&str>) -> Result<Vec<R
             Some(renaming) if !is_renamed(&renamings, renaming.from.bytes()) => {
                 renamings.push(renaming)?;
             }
-            _ => {
-                return Err(Fault::BadMapLine {
-                    place,
-                    line: number,
-                    text: shown(rt.alloc(), line)?,
-                });
-            }
+            _ => return Err(bad_line(rt.alloc(), place, number, line)),
         }
     }
     Ok(renamings)
+}
+
+// The fault of a line that is none of a map, or names a vCPU again.
+fn bad_line(alloc: Global, place: String, line: u32, text: &[u8]) -> Fault {
+    if ends_in_return(text) {
+        return Fault::Return {
+            place,
+            line: u64::from(line),
+        };
+    }
+    match shown(alloc, text) {
+        Ok(text) => Fault::BadMapLine { place, line, text },
+        Err(_) => Fault::NoMemory,
+    }
 }
 
 // What a line says, if it is one of a map.

@@ -3,6 +3,7 @@ ghost use Rattle.std.specs.Prelude.{◌<◌, ◌≤◌, ◌^◌, IfOk, length};
 ghost use Rattle.tab_core.specs.declared.TheConstants.{MAX_TICK_NS, MIN_TICK_NS};
 ghost use Rattle.tool_hosts.specs.declared.vms.TheConstants.{MAX_VMS};
 
+use crate::hosts::unread_sizes;
 use fleet_place::Vm;
 use sizes_doc::{Size, read_sizes};
 use std::alloc::{AllocError, Global};
@@ -42,7 +43,7 @@ pub(crate) fn named_vms(alloc: Global, text: &[u8]) -> Result<Vec<NamedVm<'_>>, 
 {
     match read_sizes(alloc, text) {
         Ok(sizes) => vms_of_sizes(alloc, &sizes),
-        Err(fault) => Err(Fault::from(fault)),
+        Err(fault) => Err(unread_sizes(alloc, text, fault)),
     }
 }
 

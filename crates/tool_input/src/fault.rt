@@ -62,6 +62,11 @@ pub enum Fault {
         why: &'static str,
         text: String,
     },
+    #[error("{place}line {line} ends in a carriage return, and lines have to end in line feeds alone: tableau-tools sections writes them so")]
+    Return {
+        place: String,
+        line: u64,
+    },
     #[error("{place}the trace lasts 11.9 hours or more; give a part of it")]
     LastingTrace {
         place: String,
@@ -181,6 +186,17 @@ pub enum Fault {
         old: u32,
         new: u32,
     },
+    #[error("the host that comes first has ticks of {tick_ns} ns, which are taken: leave --tick out")]
+    TickOfHost {
+        tick_ns: u32,
+    },
+    #[error("a host's trace has ticks of its own: leave --tick out")]
+    TickOfTrace,
+    #[error("{option} goes with {formats} alone: leave it out")]
+    OtherFormat {
+        option: &'static str,
+        formats: &'static str,
+    },
     #[error("a word of the command isn't text")]
     NoText,
     #[error("the cores or vCPUs aren't of the form FIRST-LAST")]
@@ -193,6 +209,12 @@ pub enum Fault {
     TextByVcpu,
     #[error("a picture is 200 to 8000 pixels wide")]
     TooNarrow,
+    #[error("there is no {what} {first}: the text has {count}, counted from 0")]
+    NoLane {
+        what: &'static str,
+        first: u32,
+        count: u64,
+    },
     #[error("no tick or no lane is to be drawn")]
     Nothing,
     #[error("there are more cores or vCPUs than 32 or 256")]
@@ -211,6 +233,7 @@ impl Fault {
             | Fault::BadLanes
             | Fault::OtherLanes
             | Fault::OtherForms
+            | Fault::OtherFormat { .. }
             | Fault::TextByVcpu
             | Fault::TooNarrow
             | Fault::OldOfRun

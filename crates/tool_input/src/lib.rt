@@ -16,10 +16,10 @@ mod unkept;
 
 pub use fault::Fault;
 pub use input::{Input, LIMIT, input_beside, input_of, read_once, unread};
-pub use mistaken::{Wanted, bad_line};
+pub use mistaken::{Wanted, bad_line, cut_in_return};
 pub use output::{finish, output_of};
 pub use plan::{drawable, host_of, plan_of, view_in, view_of};
 pub use planned::{Planned, planned_in, planned_of, shown_of, tick_of};
-pub use quote::{line_of, place_of, shown};
+pub use quote::{ends_in_return, line_of, place_of, shown};
 pub use trace::trace_of;
 pub use unkept::Refusal;

@@ -1,5 +1,5 @@
 use crate::fault::Fault;
-use crate::quote::{line_of, shown};
+use crate::quote::{ends_in_return, line_of, shown};
 use std::alloc::Global;
 use tab_words::Lines;
 
@@ -15,7 +15,8 @@ pub enum Wanted {
 }
 
 /// The fault of a text that isn't what is wanted, by its first bad line. A text of another kind, given by mistake, is said
-/// to be that: a refusal, a host document, a report, or JSON.
+/// to be that: a refusal, a host document, a report, or JSON. Where the line ends in a carriage return, or a line of the
+/// text is `%%` before one, that is said.
 pub fn bad_line(alloc: Global, place: &str, bytes: &[u8], line: u32, wanted: Wanted) -> Fault {
     let Ok(place) = String::from_str(alloc, place) else {
         return Fault::NoMemory;
@@ -27,12 +28,21 @@ pub fn bad_line(alloc: Global, place: &str, bytes: &[u8], line: u32, wanted: Wan
             Err(_) => Fault::NoMemory,
         };
     }
+    if let Some(line) = cut_in_return(bytes) {
+        return Fault::Return { place, line };
+    }
     if let Some(what) = other_kind(first, wanted) {
         return Fault::OtherText { place, what };
     }
     let Some(text) = line_of(bytes, line) else {
         return Fault::EndsEarly { place, line };
     };
+    if ends_in_return(text) {
+        return Fault::Return {
+            place,
+            line: u64::from(line),
+        };
+    }
     match shown(alloc, text) {
         Ok(text) => match wanted {
             Wanted::Plan => Fault::BadPlanLine { place, line, text },
@@ -41,6 +51,18 @@ pub fn bad_line(alloc: Global, place: &str, bytes: &[u8], line: u32, wanted: Wan
         },
         Err(_) => Fault::NoMemory,
     }
+}
+
+/// The first line, from 1, that is `%%` before a carriage return, which parts no sections.
+pub fn cut_in_return(bytes: &[u8]) -> Option<u64> {
+    let mut number = 0u64;
+    for line in Lines::over(bytes) {
+        number = number.saturating_add(1);
+        if line == b"%%\r".as_slice() {
+            return Some(number);
+        }
+    }
+    None
 }
 
 // The first line that says something: it isn't blank, and no remark of a host document.

@@ -72,11 +72,13 @@ pub fn shown_of(rt: &HostRuntime, path: Option<&str>) -> Result<(View, Option<u3
     Ok((view_in(rt.alloc(), &place, rest)?, Some(host.tick_ns)))
 }
 
-/// Nanoseconds of a tick: the host's, or those that are asked for where there is no host, or 1001. A line on standard error says
-/// that it is 1001 where neither names it, if that is a terminal.
-pub fn tick_of(rt: &HostRuntime, asked: Option<u32>, host: Option<u32>) -> u32 {
-    if let Some(tick_ns) = host.or(asked) {
-        return tick_ns;
+/// Nanoseconds of a tick: the host's, or those that are asked for where there is no host, or 1001. What is asked for
+/// beside a host is refused. A line on standard error says that it is 1001 where neither names it, if that is a terminal.
+pub fn tick_of(rt: &HostRuntime, asked: Option<u32>, host: Option<u32>) -> Result<u32, Fault> {
+    match (asked, host) {
+        (Some(_), Some(tick_ns)) => return Err(Fault::TickOfHost { tick_ns }),
+        (Some(tick_ns), None) | (None, Some(tick_ns)) => return Ok(tick_ns),
+        (None, None) => {}
     }
     if rt.stderr().is_terminal() {
         // (a line that can't be written is left out)
@@ -84,5 +86,5 @@ pub fn tick_of(rt: &HostRuntime, asked: Option<u32>, host: Option<u32>) -> u32 {
             "tableau-tools: there is no host and no --tick, so a tick is taken to be {TICK_NS} ns"
         );
     }
-    TICK_NS
+    Ok(TICK_NS)
 }

@@ -27,6 +27,11 @@ pub fn place_of(alloc: Global, path: &str) -> Result<String, AllocError> {
     Ok(place)
 }
 
+/// Whether a line ends in a carriage return.
+pub fn ends_in_return(line: &[u8]) -> bool {
+    line.ends_with(b"\r")
+}
+
 /// The line of this number, from 1; there is none after the last.
 pub fn line_of(bytes: &[u8], number: u32) -> Option<&[u8]> {
     let mut before = number;

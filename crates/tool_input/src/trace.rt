@@ -1,6 +1,6 @@
 use crate::fault::Fault;
 use crate::input::Input;
-use crate::quote::{line_of, shown};
+use crate::quote::{ends_in_return, line_of, shown};
 use std::alloc::Global;
 use view_trace::{HostTrace, LineCause, TraceFault, read_trace};
 
@@ -28,7 +28,11 @@ fn fault_of(alloc: Global, input: Input, fault: TraceFault) -> Fault {
         }
     };
     let number = u32::try_from(line).unwrap_or(u32::MAX);
-    let Ok(text) = shown(alloc, line_of(&bytes, number).unwrap_or_default()) else {
+    let text = line_of(&bytes, number).unwrap_or_default();
+    if ends_in_return(text) {
+        return Fault::Return { place, line };
+    }
+    let Ok(text) = shown(alloc, text) else {
         return Fault::NoMemory;
     };
     match why {

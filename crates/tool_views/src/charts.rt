@@ -5,12 +5,13 @@ use std::alloc::Global;
 use tab_core::{MAX_TICK_NS, MAX_VCPUS, Name, TICK_NS, Vcpu, VcpuNo};
 use tab_words::cut_sections;
 use tool_input::{
-    Fault, Input, drawable, finish, host_of, input_of, output_of, plan_of, trace_of, view_of,
+    Fault, Input, drawable, finish, host_of, input_of, output_of, plan_of, tick_of, trace_of,
+    view_of,
 };
 use vcpu_names::Names;
 use view_chart::{write_chart, write_trace_chart};
 use view_doc::View;
-use view_lanes::ChartOptions;
+use view_lanes::{ChartOptions, cores_in};
 use view_table::figures_of;
 use view_text::{TextOptions, write_text_chart, write_trace_text};
 use view_trace::is_host_trace;
@@ -51,6 +52,7 @@ pub fn chart(rt: &HostRuntime, words: &ChartWords<'_>) -> Result<(), Fault> {
 fn put_text(rt: &HostRuntime, words: &ChartWords<'_>) -> Result<(), Fault> {
     let mut options = text_options_of(words)?;
     let drawn = drawn_of(rt, words)?;
+    has_lane(words, options.first, &drawn.view)?;
     options.tick_ns = drawn.tick_ns;
     let mut sink = output_of(rt)?;
     match drawn.end {
@@ -64,6 +66,7 @@ fn put_text(rt: &HostRuntime, words: &ChartWords<'_>) -> Result<(), Fault> {
 fn put_picture(rt: &HostRuntime, words: &ChartWords<'_>) -> Result<(), Fault> {
     let mut options = options_of(words)?;
     let drawn = drawn_of(rt, words)?;
+    has_lane(words, options.first, &drawn.view)?;
     options.tick_ns = drawn.tick_ns;
     let figures = figures_of(rt.alloc(), &drawn.view)?;
     let mut sink = output_of(rt)?;
@@ -106,18 +109,27 @@ fn drawn_of(rt: &HostRuntime, words: &ChartWords<'_>) -> Result<Drawn, Fault> {
     let input = input_of(rt, words.file)?;
     let sections = cut_sections(&input.bytes);
     if sections.count() == 2 && !sections.part(0).starts_with(b"plan ") {
-        return drawn_plan_of(rt, &input.place, sections.part(0), sections.part(1));
+        return drawn_plan_of(
+            rt,
+            words.tick_ns,
+            &input.place,
+            sections.part(0),
+            sections.part(1),
+        );
     }
     if is_host_trace(&input.bytes) {
-        return drawn_trace_of(rt, input);
+        return drawn_trace_of(rt, words.tick_ns, input);
     }
     let view = view_of(rt.alloc(), input)?;
     let tick_ns = words.tick_ns.unwrap_or(TICK_NS);
     checked(view, Vec::new(rt.alloc()), tick_ns)
 }
 
-// A host's trace, whose ticks are its own.
-fn drawn_trace_of(rt: &HostRuntime, input: Input) -> Result<Drawn, Fault> {
+// A host's trace, whose ticks are its own, so that none may be asked for.
+fn drawn_trace_of(rt: &HostRuntime, asked: Option<u32>, input: Input) -> Result<Drawn, Fault> {
+    if asked.is_some() {
+        return Err(Fault::TickOfTrace);
+    }
     let trace = trace_of(rt.alloc(), input)?;
     Ok(Drawn {
         view: drawable(trace.view)?,
@@ -127,9 +139,10 @@ fn drawn_trace_of(rt: &HostRuntime, input: Input) -> Result<Drawn, Fault> {
     })
 }
 
-// A plan beside its host, whose ticks and promises are its own.
+// A plan beside its host, whose ticks and promises are its own, so that no ticks may be asked for.
 fn drawn_plan_of(
     rt: &HostRuntime,
+    asked: Option<u32>,
     place: &str,
     document: &[u8],
     plan: &[u8],
@@ -139,7 +152,8 @@ fn drawn_plan_of(
     let host = host_of(rt.alloc(), place, document)?;
     let view = plan_of(rt.alloc(), place, plan)?;
     let promises = promises_of(rt.alloc(), host.vcpus.items(), &view.names)?;
-    checked(view, promises, host.tick_ns)
+    let tick_ns = tick_of(rt, asked, Some(host.tick_ns))?;
+    checked(view, promises, tick_ns)
 }
 
 // The latencies that a host promises the vCPUs of these names; none where it has no vCPU of a name, or no reservation.
@@ -230,6 +244,20 @@ fn lanes_of(words: &ChartWords<'_>, by_vcpu: bool) -> Result<(u32, u32), Fault> 
         Some(word) => range_of(word),
         None => Ok((0, MAX_VCPUS - 1)),
     }
+}
+
+// Refuses a first lane that isn't there, where the words choose lanes.
+fn has_lane(words: &ChartWords<'_>, first: u32, view: &View) -> Result<(), Fault> {
+    let (what, count) = if words.by_vcpu {
+        ("vCPU", view.names.len() as u64)
+    } else {
+        ("core", u64::from(cores_in(view)))
+    };
+    let is_chosen = words.cores.is_some() || words.vcpus.is_some();
+    if is_chosen && u64::from(first) >= count {
+        return Err(Fault::NoLane { what, first, count });
+    }
+    Ok(())
 }
 
 // The first and the last number of a word `FIRST-LAST`, or of a word `NUMBER`.

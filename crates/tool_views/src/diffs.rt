@@ -33,7 +33,7 @@ pub fn diff(rt: &HostRuntime, words: &DiffWords<'_>) -> Result<bool, Fault> {
     let old = planned_of(rt, words.old)?;
     let new = planned_of(rt, words.new)?;
     let host_tick = shared_tick(old.tick_ns(), new.tick_ns())?;
-    let tick_ns = tick_of(rt, words.tick_ns, host_tick);
+    let tick_ns = tick_of(rt, words.tick_ns, host_tick)?;
     put_differences(rt, words.form, &old.view, &new.view, tick_ns)
 }
 

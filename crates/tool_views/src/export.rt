@@ -31,7 +31,7 @@ pub fn export_view(rt: &HostRuntime, words: &ExportWords<'_>) -> Result<(), Faul
     let (view, host_tick) = shown_of(rt, words.file)?;
     let tick_ns = match words.format {
         Format::Csv => TICK_NS,
-        Format::Chrome | Format::Json => tick_of(rt, words.tick_ns, host_tick),
+        Format::Chrome | Format::Json => tick_of(rt, words.tick_ns, host_tick)?,
     };
     let mut sink = output_of(rt)?;
     put_view(&mut sink, words.format, &view, tick_ns)?;

@@ -14,7 +14,7 @@ pub(crate) fn is_run(bytes: &[u8]) -> bool
 }
 
 /// Writes the report of a run as comma-separated values, or else as JSON. Before it may be its host, or its host and
-/// its script. A tick lasts as long as is asked for where there is no host.
+/// its script. A tick lasts as long as is asked for where there is no host; beside one that is refused.
 pub(crate) fn put_run(
     rt: &HostRuntime,
     asked: Option<u32>,
@@ -23,8 +23,11 @@ pub(crate) fn put_run(
 ) -> Result<(), Fault> {
     let sections = cut_sections(&input.bytes);
     let tick_ns = match sections.count() {
-        1 => tick_of(rt, asked, None),
-        2 | 3 => host_of(rt.alloc(), &input.place, sections.part(0))?.tick_ns,
+        1 => tick_of(rt, asked, None)?,
+        2 | 3 => {
+            let host = host_of(rt.alloc(), &input.place, sections.part(0))?;
+            tick_of(rt, asked, Some(host.tick_ns))?
+        }
         count => {
             return Err(Fault::NoRun {
                 place: String::from_str(rt.alloc(), &input.place)?,

@@ -6,7 +6,8 @@ use tab_core::{Host, MAX_TICK_NS};
 use tab_io::MemSink;
 use tab_words::cut_sections;
 use tool_input::{
-    Fault, Input, drawable, finish, host_of, input_beside, output_of, plan_of, planned_of, view_in,
+    Fault, Input, cut_in_return, drawable, finish, host_of, input_beside, output_of, plan_of,
+    planned_of, view_in,
 };
 use view_doc::View;
 use view_page::write_page;
@@ -31,7 +32,10 @@ pub fn report(rt: &HostRuntime, file: Option<&str>, old: Option<&str>) -> Result
             let view = drawable(view_in(rt.alloc(), &place, sections.part(2))?)?;
             put_page(rt, &host, &view, Some(sections.part(1)), None)
         }
-        count => Err(Fault::NoReport { place, count }),
+        count => match cut_in_return(&bytes) {
+            Some(line) => Err(Fault::Return { place, line }),
+            None => Err(Fault::NoReport { place, count }),
+        },
     }
 }
 

@@ -34,8 +34,14 @@ pub fn table(rt: &HostRuntime, words: &TableWords<'_>) -> Result<(), Fault> {
     }
     let Planned { host, view } = planned_in(rt.alloc(), &input)?;
     match host {
-        Some(host) => put_tables(rt, form, Some(host.vcpus.items()), &view, host.tick_ns)?,
-        None => put_tables(rt, form, None, &view, tick_of(rt, words.tick_ns, None))?,
+        Some(host) => {
+            let tick_ns = tick_of(rt, words.tick_ns, Some(host.tick_ns))?;
+            put_tables(rt, form, Some(host.vcpus.items()), &view, tick_ns)?;
+        }
+        None => {
+            let tick_ns = tick_of(rt, words.tick_ns, None)?;
+            put_tables(rt, form, None, &view, tick_ns)?;
+        }
     }
     Ok(tell_small(rt, &view)?)
 }
