@@ -24,10 +24,10 @@ use Rattle.run_state.proofs.FinishedLemmas.{counts_used, view_complete}
 use Rattle.run_state.proofs.RunViewLemmas.{view_kept}
 use Rattle.run_state.proofs.ViewLemmas.{IsAgreedBy, finished_view, run_view}
 use Rattle.core_workers.specs.Crews.{HasFinished, IsNewView}
+use Rattle.live_book.specs.Books.{LiveView}
+use Rattle.live_book.specs.Courses.{IsLiveCourse}
 use Rattle.live_plan.specs.declared.maker.Maker.{Maker}
 use Rattle.live_plan.specs.Actors.{LiveActorView, LiveAgrees}
-use Rattle.live_plan.specs.Books.{LiveView}
-use Rattle.live_plan.specs.Courses.{IsLiveCourse}
 use Rattle.live_plan.specs.Crews.{HaveFinished, HoldsLiveCrew, IsCrewOf, IsMakerOf, LiveCrewAgrees, LiveCrewView, actor_in, bare, live_actor_of, live_crew_view}
 use Rattle.live_plan.specs.Inside.Crewing.{AreNewMembers, IsNewMember}
 use Rattle.live_plan.specs.PlayerLaws.{live_core_lawful, live_lead_lawful}

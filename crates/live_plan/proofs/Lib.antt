@@ -1,15 +1,3 @@
-pub mod BooksLemmas
-pub mod ChangesLemmas
-pub mod CoursesLemmas
-pub mod FindingLemmas
-pub mod GrowthLemmas
-pub mod SeekingLemmas
-pub mod ShelvesLemmas
 pub mod SteppingLemmas
-pub mod ListsLemmas
-pub mod PlannersLemmas
 pub mod PlayersLemmas
-pub mod CellsLemmas
 pub mod CrewsLemmas
-pub mod OutcomesLemmas
-pub mod TellingLemmas

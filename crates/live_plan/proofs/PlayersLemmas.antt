@@ -19,17 +19,17 @@ use Rattle.plan_switch.specs.Controllers.{HasPosted}
 use Rattle.plan_switch.specs.declared.answer.ControlAnswer.TheVariants as control
 use Rattle.plan_switch.specs.declared.state.ControlState.{ControlState}
 use Rattle.core_workers.proofs.Causes.{begun_parts, begun_quiet, goes_parts, lacks_quiet, later, lead_parts, lead_stepped, low_quiet, quiet_none}
+use Rattle.live_book.specs.Books.{LiveView}
+use Rattle.live_book.specs.Shelves.{ShelfView}
 use Rattle.live_plan.specs.declared.answer.LiveAnswer.{LiveAnswer}
 use Rattle.live_plan.specs.declared.answer.LiveAnswer.TheVariants.{Ran, Behind, NotMade, Stopped, Finished}
 use Rattle.live_plan.specs.declared.controller.LiveControl.{LiveControl}
 use Rattle.live_plan.specs.declared.controller.LiveControl.TheVariants as lead
 use Rattle.live_plan.specs.Actors.{LiveActorView, LiveAgrees}
-use Rattle.live_plan.specs.Books.{LiveView}
 use Rattle.live_plan.specs.Controls.{LiveControlTold}
 use Rattle.live_plan.specs.Crews.{bare}
 use Rattle.live_plan.specs.Players.{LeadView, LiveCoreAgrees, MemberView, lead_view, live_core_kind, live_lead_kind, member_view}
 use Rattle.live_plan.specs.PlayerLaws.{live_part}
-use Rattle.live_plan.specs.Shelves.{ShelfView}
 use Rattle.live_plan.specs.Told.{LiveTold, NeedsChange}
 
 -- another's step leaves an actor in agreement

@@ -19,15 +19,15 @@ use Rattle.dispatch_core.specs.Told.{BeginsStep, BegunTold, LacksEvent}
 use Rattle.dispatch_core.proofs.EntryLemmas.{used_at}
 use Rattle.dispatch_core.proofs.PartLemmas.{entered_same}
 use Rattle.dispatch_core.proofs.ToldLemmas.{low_told}
+use Rattle.live_book.specs.Books.{LiveView, changes_before}
+use Rattle.live_book.specs.Shelves.{Grows, ShelfView}
+use Rattle.live_book.proofs.ShelvesLemmas.{missed_since}
 use Rattle.live_plan.specs.declared.answer.LiveAnswer.{LiveAnswer}
 use Rattle.live_plan.specs.declared.answer.LiveAnswer.TheVariants.{Ran, Behind, NotMade, Stopped, Finished}
 use Rattle.live_plan.specs.Actors.{IsLiveActorOf, LiveActorView, LiveAgrees, live_actor_view}
 use Rattle.live_plan.specs.Asking.{IsBeyond, LooksBeyond, Needs}
-use Rattle.live_plan.specs.Books.{LiveView, changes_before}
 use Rattle.live_plan.specs.Inside.Finishing.{LiveFinishTold, WaitTold, WaitsForCore}
-use Rattle.live_plan.specs.Shelves.{Grows, ShelfView}
 use Rattle.live_plan.specs.Told.{LiveTold, NeedsChange, WaitsFor}
-use Rattle.live_plan.proofs.ShelvesLemmas.{missed_since}
 
 -- a core that waits for a core looked beyond what it saw
 pub waits_told : (b : LiveView) (c seen used d tick : ℕ) (v w : View) (s t : ShelfView) (answer : LiveAnswer)

@@ -1,19 +1,16 @@
 -- The actor of a core of a live book, and when it agrees with its part of a view.
 -- Source: the rules of this project.
-use Rattle.std.specs.Prelude.{ℕ, ◌<◌, ◌≤◌, List, Option, None, Some, length}
-use Rattle.tab_core.specs.declared.host.Host.{Host}
+use Rattle.std.specs.Prelude.{◌<◌, ◌≤◌, List, length}
 use Rattle.table_form.specs.Running.Courses.{CourseView}
-use Rattle.table_form.specs.Tables.Plans.{PlanView}
 use Rattle.slice_table.specs.declared.full_span.FullSpan.{FullSpan}
 use Rattle.slice_table.specs.Slices.{IsTableOf}
-use Rattle.plan_make.specs.Planned.{IsPlanned}
 use Rattle.round_words.specs.declared.view.View.{View}
 use Rattle.round_words.specs.Views.{part}
 use Rattle.dispatch_core.specs.States.{AgreesWithoutPlan, FollowsPlans, StateView}
-use Rattle.live_plan.specs.declared.taken.Taken.{Taken}
-use Rattle.live_plan.specs.Books.{LiveView}
-use Rattle.live_plan.specs.Changes.{HostAfter, IsEditedBy}
-use Rattle.live_plan.specs.Courses.{IsLiveCourse}
+use Rattle.live_book.specs.declared.taken.Taken.{Taken}
+use Rattle.live_book.specs.Books.{LiveView}
+use Rattle.live_book.specs.Courses.{IsLiveCourse}
+use Rattle.live_book.specs.Seeking.{IsLastChange}
 
 -- what an actor keeps: of its core's run, the core's slice table of the host's plan, and after how many
 -- changes it last took a plan, and which change's that was
@@ -25,20 +22,6 @@ pub record LiveActorView : Type 0 where
 -- a core's actor by what it keeps
 abbrev pub live_actor_view : StateView → List FullSpan → Taken → LiveActorView
 live_actor_view state table taken = record { state = state; table = table; taken = taken }
-
--- the plan after the first k changes is that of change i, which made the host that is known then
-pub record IsLastPlanned (b : LiveView) (k i : ℕ) : Type 0 where
-  pub before : i < k
-  pub host : Host
-  pub edited_by : IsEditedBy b.host b.changes i host
-  pub plan : PlanView
-  pub planned : IsPlanned host plan
-  pub stands : HostAfter b.host b.changes k host
-
--- the plan after the first k changes is that of this one, or the host's own
-abbrev pub IsLastChange : LiveView → ℕ → Option ℕ → Type 0
-IsLastChange b k None = HostAfter b.host b.changes k b.host
-IsLastChange b k (Some i) = IsLastPlanned b k i
 
 -- the actor is one of the book: it has its core's slice table, and what it took is right for so many changes
 pub record IsLiveActorOf (b : LiveView) (a : LiveActorView) : Type 0 where

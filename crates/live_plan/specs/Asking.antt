@@ -4,8 +4,8 @@ use Rattle.std.specs.Prelude.{◌≡◌, ◌⊎◌, ℕ, ◌<◌, false, Some, l
 use Rattle.tab_core.specs.declared.entry.Entry.{Entry}
 use Rattle.round_words.specs.declared.view.Part.{Part}
 use Rattle.dispatch_core.specs.Told.{round_at}
-use Rattle.live_plan.specs.Books.{LiveView, changes_before}
-use Rattle.live_plan.specs.Shelves.{Knows, Missed, ShelfView}
+use Rattle.live_book.specs.Books.{LiveView, changes_before}
+use Rattle.live_book.specs.Shelves.{Knows, Missed, ShelfView}
 
 -- the change is among the first events that the part uses in its clock's round
 pub record Needs (b : LiveView) (p : Part) (change : ℕ) : Type 0 where

@@ -4,10 +4,10 @@ use Rattle.std.specs.Prelude.{◌≡◌, ℕ, ◌<◌, true, false, length}
 use Rattle.round_words.specs.declared.view.View.{View}
 use Rattle.plan_switch.specs.declared.answer.ControlAnswer.TheVariants as control
 use Rattle.plan_switch.specs.Told.{ControlTold}
+use Rattle.live_book.specs.Books.{IsChange, LiveView, changes_before}
+use Rattle.live_book.specs.Shelves.{Knows, Missed, ShelfView}
 use Rattle.live_plan.specs.declared.controller.LiveControl.{LiveControl}
 use Rattle.live_plan.specs.declared.controller.LiveControl.TheVariants.{Posted, Behind, NotMade, Stopped, Finished}
-use Rattle.live_plan.specs.Books.{IsChange, LiveView, changes_before}
-use Rattle.live_plan.specs.Shelves.{Knows, Missed, ShelfView}
 
 -- event n, the next one, is this change
 pub record IsNextChange (b : LiveView) (n change : ℕ) : Type 0 where

@@ -7,11 +7,11 @@ use Rattle.round_words.specs.Views.{controller, holds}
 use Rattle.plan_switch.specs.Controllers.{HasPosted}
 use Rattle.core_workers.specs.Crews.{HasFinished}
 use Rattle.crew_turns.specs.declared.player.Player.{Player}
+use Rattle.live_book.specs.Books.{LiveView}
+use Rattle.live_book.specs.Cells.{IsCellShelfOf, cell_state}
+use Rattle.live_book.specs.Planners.{IsPlannerOf, PlannerView}
 use Rattle.live_plan.specs.declared.maker.Maker.{Maker}
 use Rattle.live_plan.specs.Actors.{LiveActorView, LiveAgrees}
-use Rattle.live_plan.specs.Books.{LiveView}
-use Rattle.live_plan.specs.Inside.Cells.{IsCellShelfOf, cell_state}
-use Rattle.live_plan.specs.Planners.{IsPlannerOf, PlannerView}
 use Rattle.live_plan.specs.Players.{LeadView, MemberView}
 
 -- the actors of a live run of so many rounds: by number the cores, the controller, and the planner with its shelf

@@ -1,16 +1,8 @@
 pub mod Actors
 pub mod Asking
-pub mod Books
-pub mod Changes
 pub mod Controls
-pub mod Courses
 pub mod Crews
-pub mod Finding
 pub mod Inside
-pub mod Mades
-pub mod Planners
 pub mod PlayerLaws
 pub mod Players
-pub mod Shelves
-pub mod Telling
 pub mod Told

@@ -8,8 +8,8 @@ use Rattle.crew_turns.specs.Going.{IsSameBoard}
 use Rattle.crew_turns.specs.Kinds.{IsLawful}
 use Rattle.dispatch_core.specs.States.{FollowsPlans, StateView}
 use Rattle.core_workers.specs.ActorLaws.{lead_part, same_actor, same_more, stands_part}
+use Rattle.live_book.specs.Books.{LiveView}
 use Rattle.live_plan.specs.Actors.{LiveAgrees}
-use Rattle.live_plan.specs.Books.{LiveView}
 use Rattle.live_plan.specs.Players.{LiveCoreAgrees, MemberView, live_core_kind, live_lead_kind}
 
 -- a core's actor agrees with each view of the board that has its part

@@ -9,8 +9,8 @@ use Rattle.dispatch_core.specs.States.{IsSameCore}
 use Rattle.plan_switch.specs.Controllers.{HasPosted}
 use Rattle.plan_switch.specs.declared.state.ControlState.{ControlState}
 use Rattle.core_workers.specs.Crews.{HasFinished}
+use Rattle.live_book.specs.Books.{LiveView}
 use Rattle.live_plan.specs.Actors.{LiveActorView, LiveAgrees}
-use Rattle.live_plan.specs.Books.{LiveView}
 
 -- a live core: the book, and what its actor keeps
 pub record MemberView : Type 0 where

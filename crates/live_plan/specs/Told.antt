@@ -9,12 +9,12 @@ use Rattle.round_words.specs.Views.{last_of, part}
 use Rattle.dispatch_core.specs.declared.answer.CoreAnswer.{CoreAnswer}
 use Rattle.dispatch_core.specs.declared.answer.CoreAnswer.TheVariants as core
 use Rattle.dispatch_core.specs.Told.{BeginsStep, CoreGoes, CoreTold}
+use Rattle.live_book.specs.Books.{LiveView}
+use Rattle.live_book.specs.Courses.{IsLiveCourse}
+use Rattle.live_book.specs.Shelves.{Knows, Missed, ShelfView}
 use Rattle.live_plan.specs.declared.answer.LiveAnswer.{LiveAnswer}
 use Rattle.live_plan.specs.declared.answer.LiveAnswer.TheVariants.{Ran, Behind, NotMade, Stopped, Finished}
 use Rattle.live_plan.specs.Asking.{IsBeyond, LooksBeyond, Needs}
-use Rattle.live_plan.specs.Books.{LiveView}
-use Rattle.live_plan.specs.Courses.{IsLiveCourse}
-use Rattle.live_plan.specs.Shelves.{Knows, Missed, ShelfView}
 
 -- the step did what a step of core c does: in all that needs no plan, and by each course of the book
 pub record IsStepOf (b : LiveView) (rounds c : ℕ) (v : View) (answer : CoreAnswer) (w : View) : Type 0 where

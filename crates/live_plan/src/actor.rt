@@ -7,9 +7,8 @@ ghost use Rattle.dispatch_core.specs.Parts.{IsNewPart, IsOfOutline};
 ghost use Rattle.slice_table.specs.Owners.{AreRowOwners};
 ghost use Rattle.live_plan.specs.Actors.{IsLiveActorOf, LiveAgrees};
 
-use crate::book::LiveBook;
-use crate::taken::Taken;
 use dispatch_core::{CoreAccount, CoreState};
+use live_book::{LiveBook, Taken};
 use slice_table::{RowOwners, SliceTable};
 use std::alloc::Global;
 use std::marker::Model;

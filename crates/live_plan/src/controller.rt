@@ -4,13 +4,11 @@ ghost use Rattle.round_words.specs.Changes.{ChangesOnly};
 ghost use Rattle.round_words.specs.Seats.{view_of, IsSeatOf};
 ghost use Rattle.round_words.specs.Views.{IsStarted, controller as the_controller, holds, part};
 ghost use Rattle.plan_switch.specs.Controllers.{HasPosted, IsNewControlPart};
+ghost use Rattle.live_book.specs.Shelves.{Grows};
 ghost use Rattle.live_plan.specs.Controls.{LiveControlTold};
-ghost use Rattle.live_plan.specs.Inside.Seeking.{IsFree, IsHeldBack};
-ghost use Rattle.live_plan.specs.Shelves.{Grows};
+ghost use Rattle.live_plan.specs.Inside.Holding.{IsFree, IsHeldBack};
 
-use crate::book::LiveBook;
-use crate::seeking::Unmade;
-use crate::shelf::Shelf;
+use live_book::{LiveBook, Shelf, Unmade};
 use plan_switch::{ControlAnswer, ControlState, post_step};
 use round_words::{RoundBoard, RoundSeat};
 use std::marker::Model;

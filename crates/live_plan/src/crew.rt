@@ -7,11 +7,11 @@ ghost use Rattle.live_plan.specs.Crews.{IsCrewOf, LiveCrewAgrees, StoppedAt, bar
 ghost use Rattle.live_plan.specs.Inside.Crewing.{AreNewMembers};
 
 use crate::actor::LiveActor;
-use crate::book::LiveBook;
 use crate::lead::Lead;
 use crate::maker::Maker;
 use crate::member::Member;
 use crew_turns::{Patience, Player};
+use live_book::LiveBook;
 use slice_table::RowOwners;
 use std::alloc::Global;
 use std::marker::Model;

@@ -3,10 +3,9 @@ ghost use Rattle.round_words.specs.declared.view.View.{View as ViewValue};
 ghost use Rattle.round_words.specs.Views.{IsStarted, controller as the_controller, holds, part};
 ghost use Rattle.plan_switch.specs.Controllers.{HasPosted, IsNewControlPart};
 
-use crate::book::LiveBook;
-use crate::cell_shelf::CellShelf;
 use crate::controller::{LiveControl, LiveController, live_control_step};
 use crew_turns::{Stepper, Turn};
+use live_book::{CellShelf, LiveBook};
 use round_words::{RoundBoard, RoundSeat};
 use std::marker::Model;
 
@@ -23,7 +22,7 @@ pub(crate) struct Lead<'a> {
 }
 
 impl<'a> Model for Lead<'a> {
-    ghost use Rattle.live_plan.specs.Inside.Cells.{IsCellShelfOf};
+    ghost use Rattle.live_book.specs.Cells.{IsCellShelfOf};
     ghost use Rattle.live_plan.specs.Players.{LeadView, lead_view};
 
     ghost Value = { LeadView };

@@ -1,10 +1,8 @@
 ghost use Rattle.std.specs.Prelude.{IfOk, None};
 ghost use Rattle.live_plan.specs.Crews.{HasPlanned, IsMakerOf, StoppedAt};
 
-use crate::book::LiveBook;
-use crate::cell_shelf::CellShelf;
-use crate::planner::{LivePlanner, PlannerAnswer, planner_step};
 use crew_turns::Gate;
+use live_book::{CellShelf, LiveBook, LivePlanner, PlannerAnswer, planner_step};
 use std::alloc::Global;
 use tab_core::NoMemory;
 

@@ -5,11 +5,9 @@ ghost use Rattle.live_plan.specs.Inside.Crewing.{IsNewMember};
 
 use crate::actor::LiveActor;
 use crate::answer::LiveAnswer;
-use crate::book::LiveBook;
-use crate::cell_shelf::CellShelf;
-use crate::kept::Kept;
 use crate::stepping::step_keeping;
 use crew_turns::{CoreStepper, Stepper, Turn};
+use live_book::{CellShelf, Kept, LiveBook};
 use round_words::{RoundBoard, RoundSeat};
 use slice_table::RowOwners;
 use std::alloc::Global;
@@ -27,9 +25,9 @@ pub(crate) struct Member<'a> {
 }
 
 impl<'a> Model for Member<'a> {
+    ghost use Rattle.live_book.specs.Cells.{IsCellShelfOf};
+    ghost use Rattle.live_book.specs.Keeping.{IsTableKept};
     ghost use Rattle.live_plan.specs.Actors.{IsLiveActorOf};
-    ghost use Rattle.live_plan.specs.Inside.Cells.{IsCellShelfOf};
-    ghost use Rattle.live_plan.specs.Inside.Keeping.{IsTableKept};
     ghost use Rattle.live_plan.specs.Players.{MemberView, member_view};
 
     ghost Value = { MemberView };

@@ -32,12 +32,12 @@ use Rattle.core_workers.specs.Crews.{IsNewView}
 use Rattle.run_course.specs.Runs.{AreAccountsOf, IsReportOfState, stints_of}
 use Rattle.trace_report.specs.ReportViews.{ReportView}
 use Rattle.trace_report.specs.RunReports.{IsReportOf}
+use Rattle.live_book.specs.Books.{IsLiveBookOf, LiveView}
+use Rattle.live_book.specs.Courses.{IsLiveCourse}
+use Rattle.live_book.proofs.CoursesLemmas.{live_course}
 use Rattle.live_plan.specs.Actors.{LiveActorView, LiveAgrees}
-use Rattle.live_plan.specs.Books.{IsLiveBookOf, LiveView}
-use Rattle.live_plan.specs.Courses.{IsLiveCourse}
 use Rattle.live_plan.specs.Crews.{HoldsLiveCrew, IsCrewOf, LiveCrewAgrees, LiveCrewView, actor_in, bare, live_actor_of}
 use Rattle.live_plan.specs.Players.{MemberView, live_core_kind, live_lead_kind}
-use Rattle.live_plan.proofs.CoursesLemmas.{live_course}
 use Rattle.live_plan.proofs.CrewsLemmas.{held_crew, run, member_of}
 use Rattle.run_live.specs.Inside.Telling.{AreLiveRunAccounts, accounts_of, live_first_used, live_used_in}
 use Rattle.run_live.specs.LiveRuns.{RunsSoFar}

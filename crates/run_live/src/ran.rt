@@ -5,7 +5,7 @@ ghost use Rattle.round_words.specs.Seats.{view_of, IsSeatOf};
 ghost use Rattle.round_words.specs.Views.{unstarted};
 ghost use Rattle.round_words.specs.declared.view.View.{View};
 ghost use Rattle.core_workers.specs.Crews.{IsNewView};
-ghost use Rattle.live_plan.specs.Books.{IsLiveBookOf};
+ghost use Rattle.live_book.specs.Books.{IsLiveBookOf};
 ghost use Rattle.live_plan.specs.Crews.{IsCrewOf, LiveCrewAgrees, bare};
 ghost use Rattle.run_live.specs.Inside.Readies.{HasRoomToTell, IsLiveReady, LiveCrewHasRun};
 ghost use Rattle.run_live.specs.LiveRuns.{IsLiveRunOf, LeavesView};

@@ -3,9 +3,9 @@
 ghost use Rattle.std.specs.Prelude.{◌≡◌, IfOk, IfSome, length};
 ghost use Rattle.round_words.specs.Seats.{view_of, IsSeatOf};
 ghost use Rattle.plan_switch.specs.Controllers.{HasPosted};
+ghost use Rattle.live_book.specs.Books.{IsMadeFor};
+ghost use Rattle.live_book.specs.Inside.Lists.{AreMadeFor};
 ghost use Rattle.live_plan.specs.Actors.{IsLiveActorOf, LiveAgrees};
-ghost use Rattle.live_plan.specs.Books.{IsMadeFor};
-ghost use Rattle.live_plan.specs.Inside.Lists.{AreMadeFor};
 
 use live_plan::{
     CellShelf, ListShelf, LiveActor, LiveAnswer, LiveBook, LiveControl, LiveController,

@@ -5,8 +5,8 @@ use Rattle.round_words.specs.Shown.{HoldsCore}
 use Rattle.round_words.specs.Views.{part}
 use Rattle.crew_turns.specs.declared.player.Player.{Player}
 use Rattle.dispatch_core.specs.Parts.{IsNewPart, IsOfOutline}
+use Rattle.live_book.specs.Books.{LiveView}
 use Rattle.live_plan.specs.Actors.{LiveAgrees}
-use Rattle.live_plan.specs.Books.{LiveView}
 use Rattle.live_plan.specs.Crews.{IsMemberOf}
 use Rattle.live_plan.specs.Players.{MemberView}
 

@@ -9,12 +9,12 @@ use Rattle.dispatch_core.specs.Parts.{SameButHeard}
 use Rattle.dispatch_core.specs.declared.answer.Ended.{Ended}
 use Rattle.dispatch_core.specs.declared.answer.Ended.TheVariants.{Ran as RanOn, Behind as TooEarly}
 use Rattle.dispatch_core.specs.Told.{EndGoes, EndTold}
+use Rattle.live_book.specs.Books.{LiveView, changes_before}
+use Rattle.live_book.specs.Courses.{IsLiveCourse}
+use Rattle.live_book.specs.Shelves.{Knows, Missed, ShelfView}
 use Rattle.live_plan.specs.declared.answer.LiveAnswer.{LiveAnswer}
 use Rattle.live_plan.specs.declared.answer.LiveAnswer.TheVariants.{Ran, Behind, NotMade, Stopped, Finished}
 use Rattle.live_plan.specs.Asking.{IsBeyond, LooksBeyond}
-use Rattle.live_plan.specs.Books.{LiveView, changes_before}
-use Rattle.live_plan.specs.Courses.{IsLiveCourse}
-use Rattle.live_plan.specs.Shelves.{Knows, Missed, ShelfView}
 
 -- a core that waits looked beyond what it saw
 abbrev pub WaitTold : LiveView → ℕ → Actor → ℕ → ShelfView → LiveAnswer → ShelfView → Type 0

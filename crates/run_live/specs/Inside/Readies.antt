@@ -14,9 +14,9 @@ use Rattle.core_workers.specs.Crews.{IsNewView}
 use Rattle.trace_report.specs.ReportViews.{ReportView}
 use Rattle.trace_report.specs.RunReports.{HasRoom, vcpu_count}
 use Rattle.run_course.specs.Changes.{changes_of}
+use Rattle.live_book.specs.Books.{LiveView}
+use Rattle.live_book.specs.Courses.{IsLiveCourse}
 use Rattle.live_plan.specs.Actors.{LiveActorView}
-use Rattle.live_plan.specs.Books.{LiveView}
-use Rattle.live_plan.specs.Courses.{IsLiveCourse}
 use Rattle.live_plan.specs.Crews.{HoldsLiveCrew, IsCrewOf, LiveCrewAgrees, LiveCrewView, bare, live_actor_of}
 
 -- the crew is of a run of the book that hasn't begun

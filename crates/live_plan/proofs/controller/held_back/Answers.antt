@@ -1,6 +1,6 @@
 use Rattle.std.proofs.Common.{◌≡◌, ℕ, Some, length, ap, subst, arith}
 use Rattle.table_form.specs.Running.Outlines.{OutlineView}
-use Rattle.live_plan.specs.Finding.{is_stopped}
+use Rattle.live_book.specs.Finding.{is_stopped}
 use Rattle.live_plan.proofs.controller.held_back.Goals as goal
 
 pub returns-then-is_stopped-clause-held : goal.returns-then-is_stopped-clause-held

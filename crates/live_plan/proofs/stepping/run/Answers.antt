@@ -7,7 +7,7 @@ use Rattle.round_words.specs.Views.{part}
 use Rattle.dispatch_core.specs.declared.answer.Ended.TheVariants.{Ran, Behind}
 use Rattle.dispatch_core.specs.States.{AgreesWithoutPlan, FollowsPlans}
 use Rattle.dispatch_core.specs.Told.{EndGoes, EndTold}
-use Rattle.live_plan.proofs.SeekingLemmas.{course_plan}
+use Rattle.live_book.proofs.SeekingLemmas.{course_plan}
 use Rattle.live_plan.proofs.SteppingLemmas.{waits_told}
 use Rattle.live_plan.proofs.stepping.run.Goals as goal
 

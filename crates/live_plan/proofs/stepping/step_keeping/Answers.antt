@@ -4,9 +4,9 @@ use Rattle.round_words.specs.Seats.{view_of}
 use Rattle.dispatch_core.specs.declared.answer.Begun.TheVariants.{At, Behind}
 use Rattle.dispatch_core.specs.States.{AgreesWithoutPlan, HasBegun}
 use Rattle.dispatch_core.specs.Told.{BegunTold}
+use Rattle.live_book.specs.Keeping.{IsTableKept}
 use Rattle.live_plan.specs.Actors.{IsLiveActorOf, LiveActorView, LiveAgrees, live_actor_view}
 use Rattle.live_plan.specs.Inside.Finishing.{LiveFinishTold}
-use Rattle.live_plan.specs.Inside.Keeping.{IsTableKept}
 use Rattle.live_plan.specs.Told.{LiveTold}
 use Rattle.live_plan.proofs.SteppingLemmas.{HasBegunFrom, actor_on, agrees_on, begin_waits, finish_told}
 use Rattle.live_plan.proofs.stepping.step_keeping.Goals as goal

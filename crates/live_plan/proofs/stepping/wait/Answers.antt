@@ -1,5 +1,5 @@
 use Rattle.std.proofs.Common.{◌≡◌, ℕ, Some, length, inr, refl, sym, ap, subst, ◌∙◌, arith}
-use Rattle.live_plan.specs.Finding.{is_stopped}
+use Rattle.live_book.specs.Finding.{is_stopped}
 use Rattle.live_plan.proofs.stepping.wait.Goals as goal
 
 pub returns-then-is_stopped-clause-told : goal.returns-then-is_stopped-clause-told

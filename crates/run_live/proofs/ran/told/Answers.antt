@@ -7,8 +7,8 @@ use Rattle.round_words.specs.declared.view.View.{View}
 use Rattle.round_words.specs.Seats.{view_of}
 use Rattle.run_state.specs.Readings.{state_of}
 use Rattle.trace_report.specs.RunReports.{IsReportOf}
-use Rattle.live_plan.proofs.CoursesLemmas.{live_course}
-use Rattle.live_plan.specs.Courses.{IsLiveCourse}
+use Rattle.live_book.proofs.CoursesLemmas.{live_course}
+use Rattle.live_book.specs.Courses.{IsLiveCourse}
 use Rattle.run_live.specs.Inside.Telling.{accounts_of, live_first_used}
 use Rattle.run_live.proofs.LiveRunsLemmas.{are_told, report_of, runs_so_far}
 use Rattle.run_live.proofs.ran.told.Goals as goal

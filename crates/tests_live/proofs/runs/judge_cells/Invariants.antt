@@ -1,4 +1,4 @@
-use Rattle.live_plan.specs.Inside.Cells.{IsCellShelfOf}
+use Rattle.live_book.specs.Cells.{IsCellShelfOf}
 use Rattle.tests_live.proofs.runs.judge_cells.Given as goal
 
 abbrev pub invariant-loop-change : goal.invariant-loop-change

@@ -1,9 +1,9 @@
 use Rattle.std.proofs.Common.{◌≡◌, ℕ, zero, suc, [], ◌∷◌, ◌++◌, Option, None, Some, ap, sym, subst, ◌∙◌, arith}
 use Rattle.std.specs.Prelude.{IfSome, slice_index_or}
 use Rattle.std.proofs.lemmas.Option.{none-some}
-use Rattle.live_plan.specs.Books.{IsMadeFor, LiveView}
-use Rattle.live_plan.specs.Inside.Lists.{AreMadeFor}
-use Rattle.live_plan.specs.Mades.{MadeView}
+use Rattle.live_book.specs.Books.{IsMadeFor, LiveView}
+use Rattle.live_book.specs.Inside.Lists.{AreMadeFor}
+use Rattle.live_book.specs.Mades.{MadeView}
 use Rattle.tests_live.proofs.stepping.listed.Goals as goal
 
 -- the only value is for the only change

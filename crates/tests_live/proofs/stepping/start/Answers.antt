@@ -6,7 +6,7 @@ use Rattle.round_words.specs.Shown.{HoldsCore}
 use Rattle.round_words.specs.Views.{just_started}
 use Rattle.core_workers.proofs.StartLemmas.{holds_started, nobody}
 use Rattle.core_workers.specs.Crews.{HoldsAll}
-use Rattle.live_plan.specs.Books.{LiveView}
+use Rattle.live_book.specs.Books.{LiveView}
 use Rattle.live_plan.specs.Crews.{bare}
 use Rattle.run_live.proofs.LiveRunsLemmas.{fresh_live}
 use Rattle.tests_live.proofs.stepping.start.Goals as goal

@@ -5,7 +5,7 @@ use Rattle.slice_table.specs.Slices.{IsTableOf}
 use Rattle.slice_table.specs.Owners.{AreRowOwners}
 use Rattle.dispatch_core.specs.Parts.{IsOfOutline}
 use Rattle.dispatch_core.specs.States.{AgreesWithoutPlan}
-use Rattle.live_plan.specs.Actors.{IsLastChange}
+use Rattle.live_book.specs.Seeking.{IsLastChange}
 use Rattle.live_plan.proofs.actor.LiveActor.make_with.Goals as goal
 
 pub build_with-requires-clause-core : goal.build_with-requires-clause-core

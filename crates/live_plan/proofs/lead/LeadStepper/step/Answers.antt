@@ -4,7 +4,7 @@ use Rattle.round_words.specs.Seats.{view_of}
 use Rattle.crew_turns.specs.declared.stepper.Turn.{Turn}
 use Rattle.crew_turns.specs.Kinds.{Stepped}
 use Rattle.plan_switch.specs.Controllers.{HasPosted}
-use Rattle.live_plan.specs.Inside.Cells.{cell_state}
+use Rattle.live_book.specs.Cells.{cell_state}
 use Rattle.live_plan.specs.Players.{LeadView, lead_view, live_lead_kind}
 use Rattle.live_plan.proofs.PlayersLemmas.{lead_goes, lead_told, lead_turn}
 use Rattle.live_plan.proofs.lead.LeadStepper.step.Goals.{in-Posted, in-Behind, in-NotMade, in-Stopped, in-Finished}

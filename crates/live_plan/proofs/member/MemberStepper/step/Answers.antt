@@ -3,7 +3,7 @@ use Rattle.round_words.specs.declared.view.View.{View}
 use Rattle.round_words.specs.Seats.{view_of}
 use Rattle.crew_turns.specs.declared.stepper.Turn.{Turn}
 use Rattle.crew_turns.specs.Kinds.{Stepped}
-use Rattle.live_plan.specs.Inside.Cells.{cell_state}
+use Rattle.live_book.specs.Cells.{cell_state}
 use Rattle.live_plan.specs.Players.{LiveCoreAgrees, MemberView, live_core_kind, member_view}
 use Rattle.live_plan.proofs.PlayersLemmas.{core_goes, core_told, core_turn}
 use Rattle.live_plan.proofs.member.MemberStepper.step.Goals.{in-Ran, in-Behind, in-NotMade, in-Stopped, in-Finished}

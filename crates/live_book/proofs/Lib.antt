@@ -1,0 +1,12 @@
+pub mod BooksLemmas
+pub mod ChangesLemmas
+pub mod CoursesLemmas
+pub mod FindingLemmas
+pub mod GrowthLemmas
+pub mod SeekingLemmas
+pub mod ShelvesLemmas
+pub mod ListsLemmas
+pub mod PlannersLemmas
+pub mod CellsLemmas
+pub mod OutcomesLemmas
+pub mod TellingLemmas

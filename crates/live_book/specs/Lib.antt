@@ -1,0 +1,12 @@
+pub mod Books
+pub mod Cells
+pub mod Changes
+pub mod Courses
+pub mod Finding
+pub mod Inside
+pub mod Keeping
+pub mod Mades
+pub mod Planners
+pub mod Seeking
+pub mod Shelves
+pub mod Telling

@@ -1,5 +1,0 @@
-use Rattle.live_plan.proofs.CoursesLemmas.{live_course}
-use Rattle.live_plan.proofs.laws.a_scripts_course_is_its_live_books.Goals as goal
-
-pub returns : goal.returns
-returns c = λ host events b course of is form. live_course host events b course of is form
