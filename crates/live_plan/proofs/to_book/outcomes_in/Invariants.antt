@@ -1,11 +1,10 @@
 use Rattle.std.proofs.Common.{◌≡◌, length}
-use Rattle.live_plan.specs.Inside.Cells.{IsCellShelfOf}
-use Rattle.live_plan.specs.Inside.Outcomes.{AreOutcomesOf}
+use Rattle.live_plan.specs.Inside.Outcomes.{AreOutcomesOf, IsSameButCells}
 use Rattle.live_plan.proofs.to_book.outcomes_in.Given as goal
 
 abbrev pub invariant-loop-change : goal.invariant-loop-change
 invariant-loop-change l = record {
   count : length l.made.items ≡ l.change;
-  each : AreOutcomesOf l.book l.made.items;
-  shelf : IsCellShelfOf l.book l.shelf;
+  each : AreOutcomesOf l.fn.book l.made.items;
+  same : IsSameButCells l.fn.book l.book;
 }
