@@ -1,5 +1,5 @@
 -- What was made of the changes of a live book is what their plan book may be given.
-use Rattle.std.proofs.Common.{◌≡◌, inl, inr, ℕ, List, [], ◌∷◌, ◌++◌, length, Option, Some, Result, Ok, Err, ap, sym, subst, ◌∙◌}
+use Rattle.std.proofs.Common.{◌≡◌, inl, inr, ℕ, List, [], ◌∷◌, ◌++◌, length, Option, None, Some, Result, Ok, Err, ap, sym, subst, ◌∙◌}
 use Rattle.std.specs.Prelude.{IfSome, slice_get}
 use Rattle.tab_core.proofs.Lists.{push_split}
 use Rattle.tab_core.specs.declared.edit.Edit.{Edit}
@@ -17,7 +17,7 @@ use Rattle.plan_book.specs.declared.outcome.Outcome.{Outcome}
 use Rattle.plan_book.proofs.SameShape.{same_shape}
 use Rattle.live_plan.specs.Books.{IsLiveBookOf, LiveView, edits_in}
 use Rattle.live_plan.specs.Changes.{HostAfter, IsEditedBy}
-use Rattle.live_plan.specs.Inside.Outcomes.{AreOutcomesOf, IsOutcomeOf}
+use Rattle.live_plan.specs.Inside.Outcomes.{AreOutcomesOf, IsOutcomeOf, IsSameButCells}
 use Rattle.live_plan.proofs.CoursesLemmas.{edits_at, known_live}
 use Rattle.live_plan.proofs.TellingLemmas.{edited_here}
 
@@ -40,6 +40,17 @@ outcomes_more b made k next count are is j m at = elim (push_split made j next (
   | inl old ↦ are j m old
   | inr last ↦ subst (λ (i : ℕ). IsOutcomeOf b i m) (sym (last.0 ∙ count)) (subst (λ o. IfSome o (IsOutcomeOf b k)) last.1 is)
 ]
+
+-- what is in the cells doesn't matter to it
+pub outcome_back : (b b' : LiveView) (k : ℕ) (o : Option (Result Plan Outcome)) → IsSameButCells b b'
+    → IfSome o (IsOutcomeOf b' k) → IfSome o (IsOutcomeOf b k)
+outcome_back b b' k None same is = is
+outcome_back b b' k (Some (Ok plan)) same is = subst (λ (x : LiveView). IsOutcomeOf x k (Ok plan)) same is
+outcome_back b b' k (Some (Err outcome)) same is = subst (λ (x : LiveView). IsOutcomeOf x k (Err outcome)) same is
+
+-- one cell after the other
+pub same_but_cells : (a b c : LiveView) → IsSameButCells a b → IsSameButCells b c → IsSameButCells a c
+same_but_cells a b c ab bc = bc ∙ ap (λ (x : LiveView). record x { cells = c.cells }) ab
 
 module _ (host : Host) (events : List Event) (b : LiveView) (of : IsLiveBookOf host events b) where
   -- what the rules give for a change of the book was made of the host that it makes

@@ -1,6 +1,6 @@
 -- The actors of a live run, and when they are of a book and agree with a view.
 -- Source: the rules of this project.
-use Rattle.std.specs.Prelude.{◌≡◌, ◌⊎◌, ℕ, ◌+◌, ◌<◌, true, false, List, [], Option, None, Some, length, slice_get}
+use Rattle.std.specs.Prelude.{◌≡◌, ◌⊎◌, ℕ, ◌+◌, ◌<◌, true, false, List, [], Option, None, Some, length, map, slice_get}
 use Rattle.table_form.specs.Running.Courses.{CourseView, FitsRounds, with_plans}
 use Rattle.round_words.specs.declared.view.View.{View}
 use Rattle.round_words.specs.Views.{controller, holds}
@@ -34,6 +34,10 @@ actor_in (Some p) = Some p.actor.actor
 -- the actor of core c, if there is such a core
 abbrev pub live_actor_of : LiveCrewView → ℕ → Option LiveActorView
 live_actor_of crew c = actor_in (slice_get crew.members c)
+
+-- the actors of the cores, by number
+abbrev pub actors_of : LiveCrewView → List LiveActorView
+actors_of crew = map (λ (p : Player MemberView). p.actor.actor) crew.members
 
 -- the planner of a crew
 abbrev pub planner_of : LiveCrewView → PlannerView

@@ -1,10 +1,12 @@
-ghost use Rattle.std.specs.Prelude.{◌≡◌, ◌<◌, ◌≤◌, IfOk, None, Some, length};
+ghost use Rattle.std.specs.Prelude.{◌≡◌, ◌<◌, ◌≤◌, IfOk, None, Some, length, map};
 ghost use Rattle.tab_core.specs.declared.TheConstants.{MAX_ROUNDS};
 ghost use Rattle.round_words.specs.declared.view.View.{View as ViewValue};
 ghost use Rattle.table_form.specs.Running.Courses.{FitsRounds};
 ghost use Rattle.core_workers.specs.Crews.{IsNewView};
-ghost use Rattle.live_plan.specs.Crews.{IsCrewOf, LiveCrewAgrees, StoppedAt, bare, live_actor_of, planner_of};
+ghost use Rattle.live_plan.specs.Crews.{IsCrewOf, LiveCrewAgrees, StoppedAt, actors_of, bare, live_actor_of, planner_of};
+ghost use Rattle.crew_turns.specs.declared.player.Player.{Player as PlayerOf};
 ghost use Rattle.live_plan.specs.Inside.Crewing.{AreNewMembers};
+ghost use Rattle.live_plan.specs.Players.{MemberView};
 
 use crate::actor::LiveActor;
 use crate::book::LiveBook;
@@ -75,6 +77,31 @@ impl<'a> LiveCrew<'a> {
         let number = core.index();
         self.members[number].actor.actor()
     }
+
+    /// The cores' actors, by core. Nothing of the crew refers to the book any more. Fails only when memory runs out.
+    pub fn into_actors(self, alloc: Global) -> Result<Vec<LiveActor>, NoMemory>
+        ensures { IfOk result (λ actors. actors.items ≡ actors_of self.entry) }
+    {
+        let LiveCrew {
+            rounds: _,
+            patience: _,
+            members,
+            lead: _,
+            maker: _,
+        } = self;
+        actors_in(alloc, members)
+    }
+}
+
+// What the cores keep of their runs, by number.
+fn actors_in(alloc: Global, members: Vec<Player<Member<'_>>>) -> Result<Vec<LiveActor>, NoMemory>
+    ensures { IfOk result (λ actors. actors.items ≡ map (λ (p : PlayerOf MemberView). p.actor.actor) members.entry.items) }
+{
+    let mut actors = Vec::with_capacity(alloc, members.len())?;
+    for player in members {
+        actors.push(player.actor.into_actor())?;
+    }
+    Ok(actors)
 }
 
 // The cores, by number.

@@ -14,6 +14,7 @@ mod cell_shelf;
 mod controller;
 mod crew;
 mod finding;
+mod into_book;
 mod kept;
 mod laws;
 mod lead;
@@ -29,7 +30,6 @@ mod seeking;
 mod shelf;
 mod stepping;
 mod taken;
-mod to_book;
 mod workers;
 
 pub use actor::LiveActor;

@@ -69,6 +69,19 @@ impl<'a> Member<'a> {
     {
         &self.actor
     }
+
+    // What the core's actor keeps of its run, without the rest.
+    pub(crate) fn into_actor(self) -> LiveActor
+        ensures { result ≡ self.entry.actor }
+    {
+        let Member {
+            book: _,
+            actor,
+            shelf: _,
+            kept: _,
+        } = self;
+        actor
+    }
 }
 
 impl<'a> Stepper for Member<'a> {

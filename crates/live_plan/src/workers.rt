@@ -54,8 +54,8 @@ fn finish<R: Wait, G: Gate>(
 }
 
 /// The whole live run: each core's actor steps in a thread of its own, and the controller beside them, while the
-/// planner plans the changes in one more. At last all seats meet, and all but the planner go on together until
-/// they have finished, or not at all where memory ran out for a change.
+/// planner plans the changes in the thread of the call. At last all seats meet, and all but the planner go on
+/// together until they have finished, or not at all where memory ran out for a change.
 ///
 /// The seat holds the parts of all cores and of the controller, with which the crew's actors agree, and the crew was
 /// made of the book. It may wait for the threads that it has started, and at last for what is made of a change.
@@ -103,12 +103,8 @@ pub fn run_live<'a, R: Threads + Wait + Sync, G: Gate>(
         maker,
     } = crew;
     let lag = book.outline().lag();
-    let (maker, (mut seat, mut members, mut lead)) = join(
+    let ((mut seat, mut members, mut lead), maker) = join(
         rt,
-        move || -> Maker
-            requires { IsSync G.row × IsMakerOf book.now maker }
-            ensures { IsMakerOf book.entry.now result × HasPlanned book.entry.now result.planner }
-        { plan_all(alloc, book, maker, gate) },
         move || -> (RoundSeat, Vec<Player<Member<'_>>>, Player<Lead<'_>>)
             requires { IsSync R.row × IsSync G.row × IsSeatOf board.now seat
                 × AreHeld live_core_kind live_lead_kind members.items lead (view_of seat) }
@@ -117,6 +113,10 @@ pub fn run_live<'a, R: Threads + Wait + Sync, G: Gate>(
                 × AreSame live_core_kind live_lead_kind members.entry.items lead.entry result.1.items result.2
                 × SameActors (view_of seat) (view_of result.0) }
         { work_beside(rt, board, seat, members, lead, lag, gate, patience) },
+        move || -> Maker
+            requires { IsSync G.row × IsMakerOf book.now maker }
+            ensures { IsMakerOf book.entry.now result × HasPlanned book.entry.now result.planner }
+        { plan_all(alloc, book, maker, gate) },
     );
     let stopped = maker.stopped_at(book);
     let site = Site { board, lag, gate };

@@ -1,12 +1,13 @@
 -- A live run: how it begins, and what its actors tell of the state as which its view reads.
-use Rattle.std.proofs.Common.{◌≡◌, false, ℕ, suc, ◌+◌, ◌*◌, ◌<◌, ◌≤◌, List, [], ◌∷◌, ◌++◌, length, Option, None, Some, refl, sym, ap, ◌∙◌, subst, arith}
-use Rattle.std.specs.Prelude.{is_some, slice_get, slice_index, take}
+use Rattle.std.proofs.Common.{◌≡◌, false, ℕ, suc, ◌+◌, ◌*◌, ◌<◌, ◌≤◌, List, [], ◌∷◌, ◌++◌, length, Option, None, Some, Result, Ok, Err, refl, sym, ap, ◌∙◌, subst, arith}
+use Rattle.std.specs.Prelude.{IfOk, is_some, slice_get, slice_index, take}
 use Rattle.std.proofs.Math.Seq.{take-suc}
 use Rattle.std.proofs.lemmas.List.{length-map}
 use Rattle.std.proofs.lemmas.Option.{get_or_from_slice_get, slice_get_within}
 use Rattle.tab_core.specs.declared.TheConstants.{MAX_ROUNDS, ROUND}
 use Rattle.tab_core.specs.declared.host.Host.{Host}
 use Rattle.tab_core.specs.declared.stint.Stint.{Stint}
+use Rattle.tab_core.proofs.Lists.{element_at}
 use Rattle.script_doc.specs.Script.{AreInRun}
 use Rattle.script_doc.specs.declared.event.Event.{Event}
 use Rattle.table_form.specs.Running.Courses.{CourseView, FitsRounds, IsCourse}
@@ -35,7 +36,7 @@ use Rattle.trace_report.specs.RunReports.{IsReportOf}
 use Rattle.live_plan.specs.Actors.{LiveActorView, LiveAgrees}
 use Rattle.live_plan.specs.Books.{IsLiveBookOf, LiveView}
 use Rattle.live_plan.specs.Courses.{IsLiveCourse}
-use Rattle.live_plan.specs.Crews.{HoldsLiveCrew, IsCrewOf, LiveCrewAgrees, LiveCrewView, actor_in, bare, live_actor_of}
+use Rattle.live_plan.specs.Crews.{HoldsLiveCrew, IsCrewOf, LiveCrewAgrees, LiveCrewView, actor_in, actors_of, bare, live_actor_of}
 use Rattle.live_plan.specs.Players.{MemberView, live_core_kind, live_lead_kind}
 use Rattle.live_plan.proofs.CoursesLemmas.{live_course}
 use Rattle.live_plan.proofs.CrewsLemmas.{held_crew, run, member_of}
@@ -46,6 +47,11 @@ use Rattle.run_live.specs.LiveRuns.{RunsSoFar}
 pub is_none : (o : Option ℕ) → is_some o ≡ false → o ≡ None
 is_none None is = refl
 is_none (Some x) is = absurd cc
+
+-- what is fine stays so where one thing follows from another
+pub ok_more : {A E : Type 0} {P Q : A → Type 0} (r : Result A E) → ((a : A) → P a → Q a) → IfOk r P → IfOk r Q
+ok_more (Ok a) f p = f a p
+ok_more (Err e) f p = p
 
 -- ---- the beginning
 
@@ -84,22 +90,25 @@ module _ (b : LiveView) (v : View) (lag cores events : ℕ) (lag_is : lag ≡ b.
 -- ---- the actors' accounts
 
 -- one core's account more
-pub account_more : (crew : LiveCrewView) (n : ℕ) (a : LiveActorView) → live_actor_of crew n ≡ Some a
-    → take (n + 1) (accounts_of crew) ≡ take n (accounts_of crew) ++ a.state.account ∷ []
-account_more crew n a at =
-    let m = member_of (slice_get crew.members n) a at in
-    let x : CoreAccount = m.0.actor.actor.state.account in
-    let here : slice_get (accounts_of crew) n ≡ Some x =
-    in_map (λ (k : Player MemberView). k.actor.actor.state.account) crew.members n m.0 m.1 in
-    let lt : n < length (accounts_of crew) = slice_get_within (accounts_of crew) n x here in
+pub account_more : (actors : List LiveActorView) (n : ℕ) (a : LiveActorView) → slice_get actors n ≡ Some a
+    → take (n + 1) (accounts_of actors) ≡ take n (accounts_of actors) ++ a.state.account ∷ []
+account_more actors n a at =
+    let x : CoreAccount = a.state.account in
+    let here : slice_get (accounts_of actors) n ≡ Some x = in_map (λ (k : LiveActorView). k.state.account) actors n a at in
+    let lt : n < length (accounts_of actors) = slice_get_within (accounts_of actors) n x here in
     let next : n + 1 ≡ suc n = omega arith in
-    rw next (take-suc (accounts_of crew) n x lt
-    ∙ ap (λ (y : CoreAccount). take n (accounts_of crew) ++ y ∷ [])
-    (get_or_from_slice_get (accounts_of crew) n x x here ∙ ap (λ (y : LiveActorView). y.state.account) m.2))
+    rw next (take-suc (accounts_of actors) n x lt
+    ∙ ap (λ (y : CoreAccount). take n (accounts_of actors) ++ y ∷ []) (get_or_from_slice_get (accounts_of actors) n x x here))
 
--- there is one for each member
-pub accounts_size : (crew : LiveCrewView) → length (accounts_of crew) ≡ length crew.members
-accounts_size crew = length-map crew.members (λ (m : Player MemberView). m.actor.actor.state.account)
+-- there is one for each actor
+pub accounts_size : (actors : List LiveActorView) → length (accounts_of actors) ≡ length actors
+accounts_size actors = length-map actors (λ (a : LiveActorView). a.state.account)
+
+-- an actor of a crew's core is its member's
+crews_actor : (crew : LiveCrewView) (c : ℕ) (a : LiveActorView) → slice_get (actors_of crew) c ≡ Some a → live_actor_of crew c ≡ Some a
+crews_actor crew c a at =
+    let m = of_map (λ (p : Player MemberView). p.actor.actor) crew.members c a at in
+    ap actor_in m.1 ∙ ap Some (sym m.2)
 
 -- ---- the view
 
@@ -136,12 +145,16 @@ module _ (b : LiveView) (crew : LiveCrewView) (v : View) (is : IsCrewOf b crew) 
     cores_are : length crew.members ≡ course.cores
     cores_are = is.cores ∙ sym (ap (λ (o : OutlineView). o.cores) live.outline)
 
+    actors_are : length (actors_of crew) ≡ course.cores
+    actors_are = length-map crew.members (λ (p : Player MemberView). p.actor.actor) ∙ cores_are
+
     -- the accounts are those of the state's stints
-    pub accounts_are : AreAccountsOf course (state_of course v) (accounts_of crew)
+    pub accounts_are : AreAccountsOf course (state_of course v) (accounts_of (actors_of crew))
     accounts_are = record {
-      size = accounts_size crew ∙ (cores_are ∙ sym invariant.size);
+      size = accounts_size (actors_of crew) ∙ (actors_are ∙ sym invariant.size);
       each = λ c x at.
-          let m = of_map (λ (k : Player MemberView). k.actor.actor.state.account) crew.members c x at in
+          let a = of_map (λ (k : LiveActorView). k.state.account) (actors_of crew) c x at in
+          let m = of_map (λ (p : Player MemberView). p.actor.actor) crew.members c a.0 a.1 in
           let member = is.members c m.0 m.1 in
           let lt = slice_get_within crew.members c m.0 m.1 in
           let agrees : LiveAgrees b m.0.actor.actor.state v = agree.cores c m.0.actor.actor (ap actor_in m.1) (all.cores c lt) in
@@ -150,7 +163,7 @@ module _ (b : LiveView) (crew : LiveCrewView) (v : View) (is : IsCrewOf b crew) 
           subst (λ (k : ℕ). IsAccountOf course k (part v k).stints m.0.actor.actor.state.account) member.core
           (agrees.plans course live).account in
           subst (λ (stints : List Stint). IsAccountOf course c stints x) (sym (ap stints_of (is_core course v c small)))
-          (subst (IsAccountOf course c (part v c).stints) (sym m.2) here);
+          (subst (IsAccountOf course c (part v c).stints) (sym (a.2 ∙ ap (λ (k : LiveActorView). k.state.account) m.2)) here);
     }
 
     module _ (complete : IsComplete course crew.rounds (state_of course v)) (kept : IsCourse course) (shown : ViewInvariant v)
@@ -174,29 +187,22 @@ module _ (b : LiveView) (crew : LiveCrewView) (v : View) (is : IsCrewOf b crew) 
       some = omega (arith, started.cores_are, is.cores, cores_are, kept.form.outline.some_core)
 
       -- core 0's counts are those that were decided
-      pub first_decided : live_first_used crew ≡ (state_of course v).decided
+      pub first_decided : live_first_used (actors_of crew) ≡ (state_of course v).decided
       first_decided =
-          let m = first (omega (arith, cores_are, kept.form.outline.some_core)) in
-          ap live_used_in m.1 ∙ counts 0 m.0 m.1
-        where
-          first : 0 < length crew.members → (a : LiveActorView) × (live_actor_of crew 0 ≡ Some a)
-          first lt = first_of crew.members lt
-            where
-              first_of : (members : List (Player MemberView)) → 0 < length members
-                  → (a : LiveActorView) × (actor_in (slice_get members 0) ≡ Some a)
-              first_of [] lt' = absurd (omega arith)
-              first_of (m ∷ members) lt' = (m.actor.actor, refl)
+          let a = element_at (actors_of crew) 0 (omega (arith, actors_are, kept.form.outline.some_core)) in
+          ap live_used_in a.1 ∙ counts 0 a.0 (crews_actor crew 0 a.0 a.1)
 
       -- what the actors tell
-      pub are_told : (rounds : ℕ) → crew.rounds ≡ rounds → rounds ≤ MAX_ROUNDS → AreLiveRunAccounts course crew rounds
+      pub are_told : (rounds : ℕ) → crew.rounds ≡ rounds → rounds ≤ MAX_ROUNDS → AreLiveRunAccounts course (actors_of crew) rounds
       are_told rounds same most = record {
-        cores = cores_are;
+        cores = actors_are;
         size = ap length first_decided ∙ ((counts_used course crew.rounds 0 v run_is over some).1 ∙ same);
         counts = λ r count at.
             let decided : slice_get (state_of course v).decided r ≡ Some count =
             sym (ap (λ (used : List ℕ). slice_get used r) first_decided) ∙ at in
             omega (arith, invariant.decided_posted r count decided, invariant.posted_most);
-        within = λ c a at.
+        within = λ c a here.
+            let at = crews_actor crew c a here in
             let m = member_of (slice_get crew.members c) a at in
             let lt = slice_get_within crew.members c m.0 m.1 in
             let stands = (agree.cores c a at (all.cores c lt)).stands in
@@ -212,10 +218,10 @@ module _ (b : LiveView) (crew : LiveCrewView) (v : View) (is : IsCrewOf b crew) 
       }
 
       -- the report of what they tell is the state's
-      pub report_of : (report : ReportView) → IsReportOf course (live_first_used crew) (accounts_of crew) report
+      pub report_of : (report : ReportView) → IsReportOf course (live_first_used (actors_of crew)) (accounts_of (actors_of crew)) report
           → IsReportOfState course (state_of course v) report
       report_of report told = record {
-        accounts = accounts_of crew;
+        accounts = accounts_of (actors_of crew);
         are = accounts_are;
-        is = subst (λ (used : List ℕ). IsReportOf course used (accounts_of crew) report) first_decided told;
+        is = subst (λ (used : List ℕ). IsReportOf course used (accounts_of (actors_of crew)) report) first_decided told;
       }

@@ -7,12 +7,12 @@ ghost use Rattle.round_words.specs.declared.view.View.{View};
 ghost use Rattle.core_workers.specs.Crews.{IsNewView};
 ghost use Rattle.live_plan.specs.Books.{IsLiveBookOf};
 ghost use Rattle.live_plan.specs.Crews.{IsCrewOf, LiveCrewAgrees, bare};
-ghost use Rattle.run_live.specs.Inside.Readies.{HasRoomToTell, IsLiveReady, LiveCrewHasRun};
+ghost use Rattle.run_live.specs.Inside.Readies.{HasRoomToTell, IsLiveReady, LiveActorsHaveRun, LiveCrewHasRun};
 ghost use Rattle.run_live.specs.LiveRuns.{IsLiveRunOf, LeavesView};
 
 use crate::telling::tell;
 use core_workers::Gate;
-use live_plan::{LiveBook, LiveCrew, run_live};
+use live_plan::{LiveActor, LiveBook, LiveCrew, run_live};
 use plan_book::{BookFault, Outcome, PlanBook};
 use plan_make::PlanFault;
 use round_words::{RoundBoard, RoundSeat};
@@ -89,7 +89,8 @@ pub fn run_script<R: Threads + Wait + Sync, G: Gate>(
         return Err((seat, LiveFault::NotBegun(PlanFault::NoMemory)));
     };
     let (seat, crew, stopped) = run_ready(rt, alloc, &live, crew, rounds, board, seat, gate);
-    match ran_of(alloc, host, script, rounds, &live, &crew, &seat, stopped) {
+    let actors = crew.into_actors(alloc);
+    match ran_of(alloc, host, script, rounds, live, actors, &seat, stopped) {
         Ok(ran) => Ok((seat, ran)),
         Err(_) => Err((seat, LiveFault::Stopped)),
     }
@@ -119,27 +120,27 @@ fn run_ready<'a, R: Threads + Wait + Sync, G: Gate>(
     run_live(rt, alloc, board, seat, crew, live, gate)
 }
 
-// The run that was made, if memory didn't run out for a change and doesn't for what is reported.
+// The run that was made, if memory didn't run out for a change or for the actors, and doesn't for what is reported.
 fn ran_of(
     alloc: Global,
     host: &Host,
     script: &Script,
     rounds: u32,
-    live: &LiveBook,
-    crew: &LiveCrew<'_>,
+    live: LiveBook,
+    actors: Result<Vec<LiveActor>, NoMemory>,
     seat: &RoundSeat,
     stopped: Option<u32>,
 ) -> Result<Ran, NoMemory>
     requires within { AreWithin (length host.now.vcpus) script.now }
     requires few { rounds ≤ MAX_ROUNDS }
-    requires live { IsLiveBookOf host.now script.now live.now }
-    requires ran { LiveCrewHasRun live.now rounds crew.now (view_of seat.now) stopped }
+    requires live { IsLiveBookOf host.now script.now live }
+    requires ran { IfOk actors (λ actors. LiveActorsHaveRun live rounds actors.items (view_of seat.now) stopped) }
     ensures { IfOk result (IsLiveRunOf rounds host.now script.now (view_of seat.now)) }
 {
     if stopped.is_some() {
         return Err(AllocError);
     }
-    told(alloc, host, script, rounds, live, crew, seat)
+    told(alloc, host, script, rounds, live, &actors?, seat)
 }
 
 // The run that was made, with what its actors tell of it.
@@ -148,20 +149,20 @@ fn told(
     host: &Host,
     script: &Script,
     rounds: u32,
-    live: &LiveBook,
-    crew: &LiveCrew<'_>,
+    live: LiveBook,
+    actors: &[LiveActor],
     seat: &RoundSeat,
 ) -> Result<Ran, NoMemory>
     requires within { AreWithin (length host.now.vcpus) script.now }
     requires few { rounds ≤ MAX_ROUNDS }
-    requires live { IsLiveBookOf host.now script.now live.now }
-    requires ran { LiveCrewHasRun live.now rounds crew.now (view_of seat.now) None }
+    requires live { IsLiveBookOf host.now script.now live }
+    requires ran { LiveActorsHaveRun live rounds actors.now (view_of seat.now) None }
     ensures { IfOk result (IsLiveRunOf rounds host.now script.now (view_of seat.now)) }
 {
     let (book, changes, mut report) = room_to_tell(alloc, live, host, script, rounds)?;
     seat.shown();
     let course = book.course();
-    tell(course, course.cores(), crew, rounds, &mut report);
+    tell(course, course.cores(), actors, rounds, &mut report);
     Ok(Ran {
         book,
         changes,
@@ -192,16 +193,16 @@ fn crew_for<'a, R: Threads>(
 // The script's book, with the plans that the run made, what became of its changes, and room for the report of a run.
 fn room_to_tell(
     alloc: Global,
-    live: &LiveBook,
+    live: LiveBook,
     host: &Host,
     script: &Script,
     rounds: u32,
 ) -> Result<(PlanBook, Vec<(u32, Outcome)>, Report), NoMemory>
-    requires live { IsLiveBookOf host.now script.now live.now }
+    requires live { IsLiveBookOf host.now script.now live }
     requires within { AreWithin (length host.now.vcpus) script.now }
     ensures { IfOk result (λ r. HasRoomToTell rounds host.now script.now r.0 r.1.items r.2) }
 {
-    let book = live.to_book(alloc, host, script)?;
+    let book = live.into_book(alloc, host, script)?;
     let changes = changes_of(alloc, script.events(), book.outcomes())?;
     let report = Report::room(alloc, book.course(), rounds)?;
     Ok((book, changes, report))

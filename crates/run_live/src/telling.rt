@@ -3,16 +3,17 @@ ghost use Rattle.tab_core.specs.declared.TheConstants.{MAX_CORES, MAX_ROUNDS};
 ghost use Rattle.trace_report.specs.RunReports.{HasRoom, IsReportOf};
 ghost use Rattle.run_live.specs.Inside.Telling.{AreLiveRunAccounts, accounts_of, live_first_used};
 
-use live_plan::LiveCrew;
+use live_plan::LiveActor;
 use tab_core::CoreNo;
 use table_form::Course;
 use trace_report::{Report, accounts_make_a_report};
 
-// Fills the report with what the actors of the course's cores tell of their run of so many rounds. Takes no memory.
+// Fills the report with what the actors of the course's cores, by core, tell of their run of so many rounds. Takes
+// no memory.
 pub(crate) fn tell(
     course: &Course,
     cores: u32,
-    crew: &LiveCrew<'_>,
+    actors: &[LiveActor],
     rounds: u32,
     report: &mut Report,
 )
@@ -21,13 +22,13 @@ pub(crate) fn tell(
     requires most { cores ≤ MAX_CORES }
     requires room { HasRoom course.now rounds report.old }
     requires few { rounds ≤ MAX_ROUNDS }
-    requires told { AreLiveRunAccounts course.now crew.now rounds }
-    ensures { IsReportOf course.now (live_first_used crew.now) (accounts_of crew.now) report.new }
+    requires told { AreLiveRunAccounts course.now actors.now rounds }
+    ensures { IsReportOf course.now (live_first_used actors.now) (accounts_of actors.now) report.new }
 {
     accounts_make_a_report();
-    report.fill(course, rounds, crew.actor(CoreNo(0)).used());
+    report.fill(course, rounds, actors[0].used());
     for core in 0..cores {
-        let actor = crew.actor(CoreNo(core));
-        report.add(CoreNo(core), actor.account());
+        let number = core as usize;
+        report.add(CoreNo(core), actors[number].account());
     }
 }

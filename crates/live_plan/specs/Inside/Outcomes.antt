@@ -7,6 +7,10 @@ use Rattle.plan_book.specs.declared.outcome.Outcome.{Outcome}
 use Rattle.live_plan.specs.Books.{LiveView}
 use Rattle.live_plan.specs.Finding.{IsPlanOf, IsRefusalOf}
 
+-- the books differ in their cells alone
+abbrev pub IsSameButCells : LiveView → LiveView → Type 0
+IsSameButCells b b' = b' ≡ record b { cells = b'.cells }
+
 -- the plan or the outcome is what the rules give for change k of the book
 abbrev pub IsOutcomeOf : LiveView → ℕ → Result Plan Outcome → Type 0
 IsOutcomeOf b k (Ok plan) = (tables : List (List FullSpan)) × IsPlanOf b.host b.changes k (plan_view plan) tables

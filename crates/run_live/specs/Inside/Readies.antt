@@ -17,7 +17,7 @@ use Rattle.run_course.specs.Changes.{changes_of}
 use Rattle.live_plan.specs.Actors.{LiveActorView}
 use Rattle.live_plan.specs.Books.{LiveView}
 use Rattle.live_plan.specs.Courses.{IsLiveCourse}
-use Rattle.live_plan.specs.Crews.{HoldsLiveCrew, IsCrewOf, LiveCrewAgrees, LiveCrewView, bare, live_actor_of}
+use Rattle.live_plan.specs.Crews.{HoldsLiveCrew, IsCrewOf, LiveCrewAgrees, LiveCrewView, actors_of, bare, live_actor_of}
 
 -- the crew is of a run of the book that hasn't begun
 pub record IsLiveReady (rounds : ℕ) (b : LiveView) (crew : LiveCrewView) : Type 0 where
@@ -39,6 +39,12 @@ pub record LiveCrewHasRun (b : LiveView) (rounds : ℕ) (crew : LiveCrewView) (v
       → IsComplete course crew.rounds (state_of course view))
   pub counts : IfNone stopped ((course : CourseView) → IsLiveCourse b course → (c : ℕ) (a : LiveActorView)
       → live_actor_of crew c ≡ Some a → a.state.used ≡ (state_of course view).decided)
+
+-- these are the cores' actors of a crew that ran so
+pub record LiveActorsHaveRun (b : LiveView) (rounds : ℕ) (actors : List LiveActorView) (view : View) (stopped : Option ℕ) : Type 0 where
+  pub crew : LiveCrewView
+  pub ran : LiveCrewHasRun b rounds crew view stopped
+  pub are : actors ≡ actors_of crew
 
 -- the book and the changes are the script's for the host, and the report has room for a run of so many rounds
 pub record HasRoomToTell (rounds : ℕ) (host : Host) (events : List Event) (book : BookView)

@@ -13,8 +13,8 @@ use Rattle.live_plan.proofs.CrewsLemmas.{ComesBack, agree_back, comes_back, comp
 use Rattle.live_plan.proofs.workers.run_live.Given.{Over}
 use Rattle.live_plan.proofs.workers.run_live.Goals as goal
 
-pub join-maker-requires-after_bounds : goal.join-maker-requires-after_bounds
-join-maker-requires-after_bounds g c κs within =
+pub join-seat-requires-after_bounds : goal.join-seat-requires-after_bounds
+join-seat-requires-after_bounds g c κs within =
     let b = c.args.book.now in
     let t = c.crew.inside in
     let x : LiveCrewView = live_crew_view t.rounds t.members.items t.lead t.maker in
@@ -23,31 +23,31 @@ join-maker-requires-after_bounds g c κs within =
     let few : b.outline.cores ≤ 32 = omega (arith, c.lag-lag.ensures.kept.few_cores, ap (λ (o : OutlineView). o.cores) c.outline.ensures) in
     let held = held_crew b x v few is (subst (λ (k : LiveCrewView). LiveCrewAgrees b k v) (sym c.crew.view_is) c.requires.agree)
     (subst (λ (k : LiveCrewView). HoldsLiveCrew k v) (sym c.crew.view_is) c.requires.holds) in (
-      ((search rules, is.maker), search rules),
       ((search rules, search rules, c.requires.board, held), (search rules, search rules)),
+      ((search rules, is.maker), search rules),
     )
 
 pub finish-requires-clause-agreed : goal.finish-requires-clause-agreed
 finish-requires-clause-agreed g c κs within =
-    let j = c.join-maker.result.1 in
+    let j = c.join-seat.result.0 in
     subst (λ (ps : List (Player MemberView)). AreAgreed live_core_kind live_lead_kind ps j.2 (view_of j.0)) (sym c.deref_mut.ensures.value)
-    (held_agreed j.1.items j.2 (view_of j.0) c.join-maker.ensures.second.1)
+    (held_agreed j.1.items j.2 (view_of j.0) c.join-seat.ensures.first.1)
 
 -- the crew that comes back
 abbrev crew_after : (g : Over) → goal.After-shown g → LiveCrewView
-crew_after g c = live_crew_view c.crew.inside.rounds (with_items c.join-maker.result.1.1 c.finish.new.members).items c.finish.new.lead c.join-maker.result.0
+crew_after g c = live_crew_view c.crew.inside.rounds (with_items c.join-seat.result.0.1 c.finish.new.members).items c.finish.new.lead c.join-seat.result.1
 
 back : (g : Over) (c : goal.After-shown g) → ComesBack c.args.book.now (crew_after g c) (view_of c.finish.new.seat) c.stopped_at-stopped.result
 back g c =
     let b = c.args.book.now in
     let t = c.crew.inside in
-    let j = c.join-maker.result in
+    let j = c.join-seat.result in
     let e = c.finish.ensures in
-    let two = subst (λ (ps : List (Player MemberView)). AreSame live_core_kind live_lead_kind ps j.1.2 c.finish.new.members c.finish.new.lead) c.deref_mut.ensures.value e.same in
-    comes_back b t.rounds t.members.items j.1.1.items c.finish.new.members t.lead j.1.2 c.finish.new.lead t.maker j.0
-    (view_of j.1.0) (view_of c.finish.new.seat) c.stopped_at-stopped.result (subst (IsCrewOf b) (sym c.crew.view_is) c.requires.crew) c.join-maker.ensures.first.0
-    (with_items j.1.1 c.finish.new.members).items (with_items_is j.1.1 c.finish.new.members (two.count ∙ sym j.1.1.ok.0))
-    c.join-maker.ensures.second.2 c.join-maker.ensures.second.1 two e.actors e.agreed e.ended
+    let two = subst (λ (ps : List (Player MemberView)). AreSame live_core_kind live_lead_kind ps j.0.2 c.finish.new.members c.finish.new.lead) c.deref_mut.ensures.value e.same in
+    comes_back b t.rounds t.members.items j.0.1.items c.finish.new.members t.lead j.0.2 c.finish.new.lead t.maker j.1
+    (view_of j.0.0) (view_of c.finish.new.seat) c.stopped_at-stopped.result (subst (IsCrewOf b) (sym c.crew.view_is) c.requires.crew) c.join-seat.ensures.second.0
+    (with_items j.0.1 c.finish.new.members).items (with_items_is j.0.1 c.finish.new.members (two.count ∙ sym j.0.1.ok.0))
+    c.join-seat.ensures.first.2 c.join-seat.ensures.first.1 two e.actors e.agreed e.ended
 
 pub returns-clause-crew : goal.returns-clause-crew
 returns-clause-crew g c = (back g c).is
@@ -60,7 +60,7 @@ returns-clause-holds g c = holds_back c.args.book.now (crew_after g c) (view_of 
 
 pub returns-clause-actors : goal.returns-clause-actors
 returns-clause-actors g c =
-    actors_twice (view_of c.args.seat) (view_of c.join-maker.result.1.0) (view_of c.finish.new.seat) c.join-maker.ensures.second.3 c.finish.ensures.actors
+    actors_twice (view_of c.args.seat) (view_of c.join-seat.result.0.0) (view_of c.finish.new.seat) c.join-seat.ensures.first.3 c.finish.ensures.actors
 
 pub returns-clause-finished : goal.returns-clause-finished
 returns-clause-finished g c =

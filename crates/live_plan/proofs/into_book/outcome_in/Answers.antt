@@ -1,5 +1,5 @@
 use Rattle.live_plan.proofs.FindingLemmas.{found_in_book}
-use Rattle.live_plan.proofs.to_book.outcome_in.Goals as goal
+use Rattle.live_plan.proofs.into_book.outcome_in.Goals as goal
 
 pub outcome_of-requires : goal.outcome_of-requires
 outcome_of-requires c =
