@@ -1,5 +1,5 @@
--- Where each vCPU runs on its home alone a row has as many spans as maximal segments.
-use Rattle.std.proofs.Common.{◌≡◌, ◌⊎◌, ℕ, zero, suc, ◌+◌, ◌-◌, ◌<◌, ◌≤◌, List, [], ◌∷◌, ◌++◌, length, map, replicate, Option, Some, inl, inr, refl, ap, sym, ◌∙◌, arith, zero-add}
+-- Where none of a core's vCPUs is ever on another core its row has as many spans as maximal segments.
+use Rattle.std.proofs.Common.{◌≡◌, ◌⊎◌, ℕ, zero, suc, ◌+◌, ◌-◌, ◌<◌, ◌≤◌, List, [], ◌∷◌, ◌++◌, length, map, replicate, Option, Some, inl, inr, refl, ap, sym, ◌∙◌, arith}
 use Rattle.std.specs.Prelude.{slice_get}
 use Rattle.std.proofs.lemmas.Option.{same_Some}
 use Rattle.tab_core.specs.declared.TheConstants.{ROUND}
@@ -8,18 +8,11 @@ use Rattle.table_form.specs.Tables.Plans.{PlanView}
 use Rattle.table_form.specs.Tables.Rows.{Row, cells_from}
 use Rattle.table_form.specs.Tables.Segments.{AreMaximal, SegmentView, segment_view}
 use Rattle.table_form.specs.Tables.Serves.{owner_at}
-use Rattle.table_form.specs.Tables.Spots.{AreSpans, IsAway, IsSpanEnd, SameSpot}
+use Rattle.table_form.specs.Tables.Spots.{AreSpans, IsSpanEnd, SameSpot}
 use Rattle.table_form.proofs.RowLemmas.{cell_here, cells-cons, cells-nil}
 use Rattle.table_form.proofs.SegmentLemmas.{maximal_end}
-use Rattle.run_limit.specs.Inside.Walks.{AreAtHome}
-use Rattle.run_limit.proofs.WalkLemmas.{owner_of}
-
--- after the cells of a run the others follow
-cells_behind : (n t u : ℕ) (o : Option ℕ) (rest : Row) → t ≡ n + u
-    → slice_get (replicate n o ++ rest) t ≡ slice_get rest u
-cells_behind zero t u o rest e = ap (slice_get rest) (e ∙ zero-add u)
-cells_behind (suc n) zero u o rest e = absurd (omega arith)
-cells_behind (suc n) (suc t) u o rest e = cells_behind n t u o rest (omega arith)
+use Rattle.run_limit.specs.Inside.Walks.{IsNobodyAway}
+use Rattle.run_limit.proofs.PassedLemmas.{cells_behind, owner_of}
 
 -- a cell of a run and others is the run's, or one of the others
 cell_cases : (n x : ℕ) (o c : Option ℕ) (rest : Row) → slice_get (replicate n o ++ rest) x ≡ Some c
@@ -61,24 +54,17 @@ ahead_next row start s ss ahead less x low =
     ∙ (ap (λ (cells : Row). slice_get cells (x - start)) (cells-cons start s ss)
     ∙ cells_behind (s.end - start) (x - start) (x - s.end) s.owner (cells_from s.end ss) (omega arith))
 
--- nobody is away
-nobody_away : (plan : PlanView) (c x v : ℕ) → AreAtHome plan → IsAway plan c x v → ⊥
-nobody_away plan c x v home away =
-    let other = home away.other v x away.stands in
-    let same : Some away.other ≡ Some c = same_Some {A = Option ℕ} (Some away.other) (Some c) (sym other ∙ away.home) in
-    away.elsewhere (same_Some {A = ℕ} away.other c same)
-
 -- places with one owner are alike
-alike_owners : (plan : PlanView) (c x y : ℕ) → AreAtHome plan → owner_at plan.rows c x ≡ owner_at plan.rows c y
+alike_owners : (plan : PlanView) (c x y : ℕ) → IsNobodyAway plan c → owner_at plan.rows c x ≡ owner_at plan.rows c y
     → SameSpot plan c x y
 alike_owners plan c x y home same = record {
   owner = same;
-  away = λ v away. absurd (nobody_away plan c x v home away);
-  back = λ v away. absurd (nobody_away plan c y v home away);
+  away = λ v away. absurd (home x v away);
+  back = λ v away. absurd (home y v away);
 }
 
 -- the first segment is a span
-first_span : (plan : PlanView) (c start : ℕ) (row : Row) (s : Segment) (ss : List Segment) → AreAtHome plan
+first_span : (plan : PlanView) (c start : ℕ) (row : Row) (s : Segment) (ss : List Segment) → IsNobodyAway plan c
     → slice_get plan.rows c ≡ Some row → AreMaximal start (map segment_view (s ∷ ss)) ROUND
     → IsAhead row start (s ∷ ss) → IsSpanEnd plan c start s.end
 first_span plan c start row s ss home at maximal ahead =
@@ -104,7 +90,7 @@ first_span plan c start row s ss home at maximal ahead =
         most.1 (sym first ∙ (same.owner ∙ second))))
 
 -- each segment is a span
-pub segments_are_spans : (plan : PlanView) (c start : ℕ) (row : Row) (ss : List Segment) → AreAtHome plan
+pub segments_are_spans : (plan : PlanView) (c start : ℕ) (row : Row) (ss : List Segment) → IsNobodyAway plan c
     → slice_get plan.rows c ≡ Some row → AreMaximal start (map segment_view ss) ROUND → IsAhead row start ss
     → AreSpans plan c start (map (λ (s : Segment). s.end) ss) ROUND
 segments_are_spans plan c start row [] home at maximal ahead = maximal

@@ -1,7 +1,9 @@
 pub mod AtHomeLemmas
 pub mod EndLemmas
+pub mod LaneLemmas
 pub mod LargestLemmas
 pub mod OneBound
+pub mod PassedLemmas
 pub mod RaisedLemmas
 pub mod SpanLemmas
 pub mod StintBoundLemmas

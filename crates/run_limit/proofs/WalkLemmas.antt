@@ -1,276 +1,294 @@
--- A walk over all rows of a plan: who holds each row from place to place, and which spans have begun.
-use Rattle.std.proofs.Common.{◌≡◌, ◌⊎◌, ℕ, ◌+◌, ◌-◌, ◌<◌, ◌≤◌, List, [], length, get_or, set, Option, Some, None, inl, inr, refl, ap, subst, sym, ◌∙◌, arith}
-use Rattle.std.specs.Prelude.{slice_get, slice_index, slice_index_or}
-use Rattle.std.proofs.lemmas.Bool.{cases_eq, cases_lt}
-use Rattle.std.proofs.lemmas.List.{get_or-set_other, get_or-set_same}
-use Rattle.std.proofs.lemmas.Option.{same_Some, slice_get-get_or, slice_get_within}
+-- A walk over the places at which a core's vCPUs may come to other rows or leave them, and the spans up to there.
+use Rattle.std.proofs.Common.{◌≡◌, ◌≢◌, ℕ, zero, suc, ◌+◌, ◌-◌, ◌<◌, ◌≤◌, length, Option, Some, inl, inr, refl, ap, subst, sym, ◌∙◌, arith}
+use Rattle.std.specs.Prelude.{slice_get}
+use Rattle.std.proofs.lemmas.Bool.{cases_lt}
 use Rattle.tab_core.specs.declared.TheConstants.{ROUND}
-use Rattle.table_form.specs.Tables.Homes.{IsHome}
 use Rattle.table_form.specs.Tables.Plans.{PlanView}
 use Rattle.table_form.specs.Tables.Rows.{Row}
+use Rattle.table_form.specs.Tables.Segments.{segments_from}
 use Rattle.table_form.specs.Tables.Serves.{cell_of, flat, owner_at}
 use Rattle.table_form.specs.Tables.Spots.{HasSpans, IsAway, SameSpot}
-use Rattle.table_form.proofs.SpotLemmas.{has_more, no_spans, owner_beyond, owner_within, same_spot, spot_through}
-use Rattle.run_limit.specs.Inside.Walks.{AreDue, AreOwnedUpTo, AreOwners, AreSpansCounted, IsElsewhere, IsMissed, IsOwnedUpTo, LeavesAlike, MovesCount}
+use Rattle.table_form.proofs.SpotLemmas.{has_more, no_spans, same_spot, spot_through}
+use Rattle.run_limit.specs.declared.lanes.Lane.{Lane}
+use Rattle.run_limit.specs.declared.lanes.Lanes.{Lanes}
+use Rattle.run_limit.specs.Inside.Walks.{AreAllLanes, AreBefore, AreLanes, AreSame, AreSpansCounted, EndFrom, IsHere, IsListed, Shows, WasHere, passed}
+use Rattle.run_limit.proofs.PassedLemmas.{IsNewSegment, IsOldSegment, owner_of, row_cell, row_maximal, segment_cases}
 
--- ---- who holds each row
+-- ---- who is away
 
--- what a row says of a place
-pub owner_of : (rows : List Row) (d x : ℕ) (row : Row) (o : Option ℕ) → slice_get rows d ≡ Some row
-    → slice_get row x ≡ Some o → owner_at rows d x ≡ o
-owner_of rows d x row o at cell = ap (λ (r : Option Row). cell_of r x) at ∙ ap flat cell
+-- at the tick each lane's row shows the lane's owner
+abbrev pub AreShown : PlanView → ℕ → ℕ → Lanes → Type 0
+AreShown plan c x lanes = (at : ℕ) (lane : Lane) → IsListed lanes at lane
+    → (lane.row ≢ c) × Shows plan c x lane.row lane.owner
 
--- at a place up to which each row is held its owner is known
-pub held_owners : (rows : List Row) (from x : ℕ) (owners : List (Option ℕ)) (ends : List ℕ)
-    → AreOwnedUpTo rows from owners ends → from ≤ x → ((d : ℕ) → d < length rows → x < slice_index ends d)
-    → AreOwners rows x owners
-held_owners rows from x owners ends held low before d lt =
-    let row : Row = get_or rows d [] in
-    let at : slice_get rows d ≡ Some row = slice_get-get_or rows d [] lt in
-    sym (owner_of rows d x row (slice_index_or owners d None) at ((held d row at).cells x low (before d lt)))
+-- from the place on, up to where the first one ends
+pub lanes_show : (plan : PlanView) (c place next x : ℕ) (lanes : Lanes) → AreLanes plan c place lanes
+    → EndFrom next lanes → place ≤ x → x < next → AreShown plan c x lanes
+lanes_show plan c place next x lanes are end low lt at lane listed =
+    let is = are at lane listed in
+    let far : next ≤ lane.end = end at lane listed in
+    (is.other, is.shows x low (omega arith))
 
--- from there on no row changes its owner before the least end
-pub held_steady : (rows : List Row) (place next : ℕ) (owners : List (Option ℕ)) (ends : List ℕ)
-    → AreOwnedUpTo rows place owners ends → ((d : ℕ) → d < length rows → next ≤ slice_index ends d)
-    → (d x : ℕ) → place ≤ x → x < next → owner_at rows d place ≡ owner_at rows d x
-held_steady rows place next owners ends held least d x low before = elim (cases_lt d (length rows)) [
-  | inl lt ↦
-      let row : Row = get_or rows d [] in
-      let at : slice_get rows d ≡ Some row = slice_get-get_or rows d [] lt in
-      let h = held d row at in
-      let far : next ≤ slice_index ends d = least d lt in
-      let o : Option ℕ = slice_index_or owners d None in
-      owner_of rows d place row o at (h.cells place (omega arith) h.after)
-      ∙ sym (owner_of rows d x row o at (h.cells x low (omega arith)))
-  | inr past ↦ owner_beyond rows d place past ∙ sym (owner_beyond rows d x past)
-]
+-- a vCPU that a lane has is away
+here_away : (plan : PlanView) (c x v : ℕ) (lanes : Lanes) → AreShown plan c x lanes → IsHere lanes v
+    → IsAway plan c x v
+here_away plan c x v lanes shown here =
+    let is = shown here.at here.lane here.listed in
+    record {
+      home = is.1.home v here.owner;
+      other = here.lane.row;
+      elsewhere = is.0;
+      stands = is.1.stands v here.owner;
+    }
 
--- at a later place a row whose end is after it is still held
-pub held_due : (rows : List Row) (from place : ℕ) (owners : List (Option ℕ)) (ends : List ℕ)
-    → AreOwnedUpTo rows from owners ends → from ≤ place → AreDue rows place owners ends
-held_due rows from place owners ends held le d row at behind =
-    let h = held d row at in
-    record { after = behind; within = h.within; cells = λ x low before. h.cells x (omega arith) before }
+-- a vCPU that is away a lane has
+away_here : (plan : PlanView) (c x v : ℕ) (lanes : Lanes) → AreAllLanes plan c lanes → AreShown plan c x lanes
+    → IsAway plan c x v → IsHere lanes v
+away_here plan c x v lanes all shown away =
+    let lane = all away.other v x (λ e. away.elsewhere (sym e)) away.home away.stands in
+    let is = shown lane.at lane.lane lane.listed in
+    record {
+      at = lane.at;
+      lane = lane.lane;
+      listed = lane.listed;
+      owner = is.1.only v away.home (ap (λ (d : ℕ). owner_at plan.rows d x) lane.row ∙ away.stands);
+    }
 
--- where all ends are after the place each row is held
-pub due_held : (rows : List Row) (place : ℕ) (owners : List (Option ℕ)) (ends : List ℕ)
-    → AreDue rows place owners ends → ((d : ℕ) → d < length rows → place < slice_index ends d)
-    → AreOwnedUpTo rows place owners ends
-due_held rows place owners ends due behind d row at = due d row at (behind d (slice_get_within rows d row at))
+-- a vCPU that a lane had was away
+was_away : (plan : PlanView) (c x v : ℕ) (lanes : Lanes) → AreBefore plan c x lanes
+    → ((at : ℕ) (lane : Lane) → IsListed lanes at lane → lane.row ≢ c) → WasHere lanes v → IsAway plan c x v
+was_away plan c x v lanes before other was =
+    let is = before was.at was.lane was.listed in
+    record {
+      home = is.home v was.was;
+      other = was.lane.row;
+      elsewhere = other was.at was.lane was.listed;
+      stands = is.stands v was.was;
+    }
 
--- all ends are after the place where each row is held
-pub ends_behind : (rows : List Row) (place : ℕ) (owners : List (Option ℕ)) (ends : List ℕ)
-    → AreOwnedUpTo rows place owners ends → (d : ℕ) → d < length rows → place < slice_index ends d
-ends_behind rows place owners ends held d lt = (held d (get_or rows d []) (slice_get-get_or rows d [] lt)).after
+-- a vCPU that was away a lane had
+away_was : (plan : PlanView) (c x v : ℕ) (lanes : Lanes) → AreAllLanes plan c lanes → AreBefore plan c x lanes
+    → IsAway plan c x v → WasHere lanes v
+away_was plan c x v lanes all before away =
+    let lane = all away.other v x (λ e. away.elsewhere (sym e)) away.home away.stands in
+    let is = before lane.at lane.lane lane.listed in
+    record {
+      at = lane.at;
+      lane = lane.lane;
+      listed = lane.listed;
+      was = is.only v away.home (ap (λ (d : ℕ). owner_at plan.rows d x) lane.row ∙ away.stands);
+    }
 
--- a new owner and a new end in one row
-pub due_set : (rows : List Row) (place : ℕ) (owners : List (Option ℕ)) (ends : List ℕ) (e : ℕ) (new : Row)
-    (owner : Option ℕ) (end : ℕ) → AreDue rows place owners ends → slice_get rows e ≡ Some new
-    → e < length owners → e < length ends → IsOwnedUpTo new place owner end
-    → AreDue rows place (set owners e owner) (set ends e end)
-due_set rows place owners ends e new owner end due there room room' is d row at behind = elim (cases_eq d e) [
-  | inl here ↦
-      let same : new ≡ row = same_Some {A = Row} new row (sym there ∙ (ap (slice_get rows) (sym here) ∙ at)) in
-      let o : slice_index_or (set owners e owner) d None ≡ owner =
-      ap (λ (k : ℕ). slice_index_or (set owners e owner) k None) here ∙ get_or-set_same owners e owner None room in
-      let last : slice_index (set ends e end) d ≡ end =
-      ap (slice_index (set ends e end)) here ∙ get_or-set_same ends e end 0 room' in
-      subst (λ (n : ℕ). IsOwnedUpTo row place (slice_index_or (set owners e owner) d None) n) (sym last)
-      (subst (λ (p : Option ℕ). IsOwnedUpTo row place p end) (sym o)
-      (subst (λ (r : Row). IsOwnedUpTo r place owner end) same is))
-  | inr ne ↦
-      let o : slice_index_or (set owners e owner) d None ≡ slice_index_or owners d None =
-      get_or-set_other owners e d owner None ne in
-      let last : slice_index (set ends e end) d ≡ slice_index ends d = get_or-set_other ends e d end 0 ne in
-      subst (λ (n : ℕ). IsOwnedUpTo row place (slice_index_or (set owners e owner) d None) n) (sym last)
-      (subst (λ (p : Option ℕ). IsOwnedUpTo row place p (slice_index ends d)) (sym o) (due d row at (omega arith)))
-]
+-- the same vCPUs are away at both places
+pub record AreAwayAlike (plan : PlanView) (c x y : ℕ) : Type 0 where
+  pub away : (v : ℕ) → IsAway plan c x v → IsAway plan c y v
+  pub back : (v : ℕ) → IsAway plan c y v → IsAway plan c x v
 
--- ---- which cores' spots change
+-- where the lanes show one thing at both
+pub shown_alike : (plan : PlanView) (c x y : ℕ) (lanes : Lanes) → AreAllLanes plan c lanes
+    → AreShown plan c x lanes → AreShown plan c y lanes → AreAwayAlike plan c x y
+shown_alike plan c x y lanes all one other = record {
+  away = λ v a. here_away plan c y v lanes other (away_here plan c x v lanes all one a);
+  back = λ v a. here_away plan c x v lanes one (away_here plan c y v lanes all other a);
+}
+
+-- where the lanes have whom they had
+pub same_alike : (plan : PlanView) (c x y : ℕ) (lanes : Lanes) → AreAllLanes plan c lanes
+    → AreBefore plan c x lanes → AreShown plan c y lanes → AreSame lanes → AreAwayAlike plan c x y
+same_alike plan c x y lanes all before shown same = record {
+  away = λ v a. here_away plan c y v lanes shown (same.stay v (away_was plan c x v lanes all before a));
+  back = λ v a. was_away plan c x v lanes before (λ at lane listed. (shown at lane listed).0)
+      (same.are_old v (away_here plan c y v lanes all shown a));
+}
+
+-- and only there
+pub alike_same : (plan : PlanView) (c x y : ℕ) (lanes : Lanes) → AreAllLanes plan c lanes
+    → AreBefore plan c x lanes → AreShown plan c y lanes → SameSpot plan c x y → AreSame lanes
+alike_same plan c x y lanes all before shown same = record {
+  stay = λ v was. away_here plan c y v lanes all shown (same.away v
+      (was_away plan c x v lanes before (λ at lane listed. (shown at lane listed).0) was));
+  are_old = λ v here. away_was plan c x v lanes all before (same.back v (here_away plan c y v lanes shown here));
+}
+
+-- ---- the spans up to a place
 
 -- alike is alike both ways
 spot_back : (plan : PlanView) (c x y : ℕ) → SameSpot plan c x y → SameSpot plan c y x
 spot_back plan c x y same = record { owner = sym same.owner; away = same.back; back = same.away }
 
--- where no row gives a reason the two places are alike
-pub alike_where : (plan : PlanView) (c x y : ℕ) → c < length plan.rows
-    → ((d : ℕ) → d < length plan.rows → LeavesAlike plan c x y d) → SameSpot plan c x y
-alike_where plan c x y lt each = record {
-  owner = (each c lt).own refl;
-  away = λ v a. (each a.other (owner_within plan.rows a.other x v a.stands)).went v a.home
-      (λ e. a.elsewhere (sym e)) a.stands;
-  back = λ v a. (each a.other (owner_within plan.rows a.other y v a.stands)).came v a.home
-      (λ e. a.elsewhere (sym e)) a.stands;
-}
-
--- a row that keeps its owner gives none
-pub leaves_alike : (plan : PlanView) (c x y d : ℕ) → owner_at plan.rows d x ≡ owner_at plan.rows d y
-    → LeavesAlike plan c x y d
-leaves_alike plan c x y d same = record {
-  own = λ e. same;
-  went = λ v home ne stands. record {
-    home = home;
-    other = d;
-    elsewhere = λ e. ne (sym e);
-    stands = sym same ∙ stands;
-  };
-  came = λ v home ne stands. record {
-    home = home;
-    other = d;
-    elsewhere = λ e. ne (sym e);
-    stands = same ∙ stands;
-  };
-}
-
--- a vCPU that another row has is away
-pub is_away : (plan : PlanView) (c x v : ℕ) (owners : List (Option ℕ)) → AreOwners plan.rows x owners
-    → IsHome plan.homes c v → IsElsewhere owners (length plan.rows) c (Some v) → IsAway plan c x v
-is_away plan c x v owners are home there = record {
-  home = home;
-  other = there.row;
-  elsewhere = there.other;
-  stands = sym (are there.row there.there) ∙ there.has;
-}
-
--- a vCPU that is away another row has
-has_away : (plan : PlanView) (c x v : ℕ) (owners : List (Option ℕ)) → AreOwners plan.rows x owners
-    → IsAway plan c x v → IsElsewhere owners (length plan.rows) c (Some v)
-has_away plan c x v owners are away =
-    let lt = owner_within plan.rows away.other x v away.stands in
-    record { row = away.other; there = lt; other = away.elsewhere; has = are away.other lt ∙ away.stands }
-
--- a vCPU that is missed at the second place was away at the first
-missed_away : (plan : PlanView) (c x y d : ℕ) (o : Option ℕ) (owners : List (Option ℕ))
-    → AreOwners plan.rows y owners → o ≡ owner_at plan.rows d x
-    → (m : IsMissed plan.homes owners (length plan.rows) o d c)
-    → ((v : ℕ) → IsAway plan c x v → IsAway plan c y v) → ⊥
-missed_away plan c x y d o owners are is m moves =
-    let away : IsAway plan c x m.vcpu = record {
-      home = m.home;
-      other = d;
-      elsewhere = λ e. m.other (sym e);
-      stands = sym is ∙ m.owner_is;
-    } in
-    m.missed (subst (IsElsewhere owners (length plan.rows) c) (sym m.owner_is)
-    (has_away plan c y m.vcpu owners are (moves m.vcpu away)))
-
--- the core's spot is another one where the vCPU went
-pub went_unlike : (plan : PlanView) (c x y d : ℕ) (o : Option ℕ) (owners : List (Option ℕ))
-    → AreOwners plan.rows y owners → o ≡ owner_at plan.rows d x
-    → IsMissed plan.homes owners (length plan.rows) o d c → SameSpot plan c x y → ⊥
-went_unlike plan c x y d o owners are is m same = missed_away plan c x y d o owners are is m same.away
-
--- the core's spot is another one where the vCPU came
-pub came_unlike : (plan : PlanView) (c x y d : ℕ) (o : Option ℕ) (owners : List (Option ℕ))
-    → AreOwners plan.rows x owners → o ≡ owner_at plan.rows d y
-    → IsMissed plan.homes owners (length plan.rows) o d c → SameSpot plan c x y → ⊥
-came_unlike plan c x y d o owners are is m same = missed_away plan c y x d o owners are is m same.back
-
--- ---- what has begun
-
--- one move after another is one
-pub moves_twice : (place a n b m c k : ℕ) → MovesCount place a n b m → MovesCount place b m c k → MovesCount place a n c k
-moves_twice place a n b m c k one two = elim one [
-  | inl stays ↦ elim two [
-    | inl stays' ↦ inl (stays'.0 ∙ stays.0, stays'.1 ∙ stays.1)
-    | inr goes ↦ inr (omega arith, goes.1, omega arith)
-  ]
-  | inr goes ↦ elim two [
-    | inl stays ↦ inr (goes.0, stays.0 ∙ goes.1, omega arith)
-    | inr again ↦ absurd (omega arith)
-  ]
-]
-
--- what has begun at the place stays begun there
-pub stays_begun : (place a n b m : ℕ) → MovesCount place a n b m → a ≡ place → b ≡ place
-stays_begun place a n b m moves at = elim moves [ inl stays ↦ stays.0 ∙ at | inr goes ↦ goes.1 ]
+-- up to the place the core's row has so many spans with the one that isn't known to end
+pub record IsCounted (plan : PlanView) (c place count : ℕ) : Type 0 where
+  pub begin : ℕ
+  pub spans : AreSpansCounted plan c place begin count
 
 -- the first span begins with the round
-pub counted_first : (plan : PlanView) (c next : ℕ) → 0 < next
-    → ((d x : ℕ) → 0 ≤ x → x < next → owner_at plan.rows d 0 ≡ owner_at plan.rows d x)
-    → AreSpansCounted plan c next 0 1
-counted_first plan c next some steady = record {
-  before = 0;
-  spans = no_spans plan c;
-  count_is = refl;
-  begun = some;
-  alike = λ x low lt. same_spot plan c 0 x (λ d. steady d x low lt);
+pub counted_first : (plan : PlanView) (c : ℕ) → IsCounted plan c 1 1
+counted_first plan c = record {
+  begin = 0;
+  spans = record {
+    before = 0;
+    spans = no_spans plan c;
+    count_is = refl;
+    begun = omega arith;
+    few = omega arith;
+    alike = λ x low lt. same_spot plan c 0 x
+        (λ d. ap (owner_at plan.rows d) (let is : 0 ≡ x = omega arith in is));
+  };
 }
 
 -- it goes on over a place that shows the same
-counted_more : (plan : PlanView) (c place next begin count : ℕ) → AreSpansCounted plan c place begin count
-    → place < next → SameSpot plan c (place - 1) place
-    → ((d x : ℕ) → place ≤ x → x < next → owner_at plan.rows d place ≡ owner_at plan.rows d x)
-    → AreSpansCounted plan c next begin count
-counted_more plan c place next begin count was less same steady = record {
-  before = was.before;
-  spans = was.spans;
-  count_is = was.count_is;
-  begun = (let lt = was.begun in omega arith);
-  alike = λ x low lt. elim (cases_lt x place) [
-    | inl inside ↦ was.alike x low inside
-    | inr later ↦
-        let lt' = was.begun in
-        spot_through plan c begin place x
-        (spot_through plan c begin (place - 1) place (was.alike (place - 1) (omega arith) (omega arith)) same)
-        (same_spot plan c place x (λ d. steady d x later lt))
-  ];
-}
+pub counted_more : (plan : PlanView) (c place count : ℕ) → IsCounted plan c place count
+    → SameSpot plan c (place - 1) place → IsCounted plan c (place + 1) count
+counted_more plan c place count so_far same =
+    let was = so_far.spans in
+    let first = so_far.begin in
+    record {
+      begin = first;
+      spans = record {
+        before = was.before;
+        spans = was.spans;
+        count_is = was.count_is;
+        begun = (let lt = was.begun in omega arith);
+        few = was.few;
+        alike = λ x low lt. elim (cases_lt x place) [
+          | inl inside ↦ was.alike x low inside
+          | inr later ↦
+              let here : place ≡ x = omega arith in
+              let begun = was.begun in
+              subst (SameSpot plan c first) here
+              (spot_through plan c first (place - 1) place
+              (was.alike (place - 1) (omega arith) (omega arith)) same)
+        ];
+      };
+    }
 
 -- a span begins at a place that shows something else
-counted_new : (plan : PlanView) (c place next begin count : ℕ) → AreSpansCounted plan c place begin count
-    → place < ROUND → place < next → (SameSpot plan c (place - 1) place → ⊥)
-    → ((d x : ℕ) → place ≤ x → x < next → owner_at plan.rows d place ≡ owner_at plan.rows d x)
-    → AreSpansCounted plan c next place (count + 1)
-counted_new plan c place next begin count was in_round less unlike steady = record {
-  before = was.before + 1;
-  spans = has_more plan c begin was.before place was.spans (record {
-    after = was.begun;
-    within = omega arith;
-    alike = was.alike;
-    maximal = inr (λ same.
-        (let lt = was.begun in
-        unlike (spot_through plan c (place - 1) begin place
-        (spot_back plan c begin (place - 1) (was.alike (place - 1) (omega arith) (omega arith))) same)));
-  });
-  count_is = (let is = was.count_is in omega arith);
-  begun = less;
-  alike = λ x low lt. same_spot plan c place x (λ d. steady d x low lt);
-}
-
--- a step of the walk counts
-pub counted_step : (plan : PlanView) (c place next begin count begin' count' : ℕ)
-    → AreSpansCounted plan c place begin count → place < ROUND → place < next
-    → ((d x : ℕ) → place ≤ x → x < next → owner_at plan.rows d place ≡ owner_at plan.rows d x)
-    → MovesCount place begin count begin' count'
-    → (begin' ≡ place → (begin ≡ place) ⊎ (SameSpot plan c (place - 1) place → ⊥))
-    → (begin' ≡ place) ⊎ SameSpot plan c (place - 1) place
-    → AreSpansCounted plan c next begin' count'
-counted_step plan c place next begin count begin' count' was in_round less steady moves other alike = elim moves [
-  | inl stays ↦ elim alike [
-    | inl begun ↦ absurd (let lt = was.begun in omega arith)
-    | inr same ↦
-        subst (λ (n : ℕ). AreSpansCounted plan c next begin' n) (sym stays.1)
-        (subst (λ (b : ℕ). AreSpansCounted plan c next b count) (sym stays.0)
-        (counted_more plan c place next begin count was less same steady))
-  ]
-  | inr goes ↦ elim (other goes.1) [
-    | inl begun ↦ absurd (let lt = was.begun in omega arith)
-    | inr unlike ↦
-        subst (λ (n : ℕ). AreSpansCounted plan c next begin' n) (sym goes.2)
-        (subst (λ (b : ℕ). AreSpansCounted plan c next b (count + 1)) (sym goes.1)
-        (counted_new plan c place next begin count was in_round less unlike steady))
-  ]
-]
+pub counted_new : (plan : PlanView) (c place count : ℕ) → IsCounted plan c place count → place < ROUND
+    → (SameSpot plan c (place - 1) place → ⊥) → IsCounted plan c (place + 1) (count + 1)
+counted_new plan c place count so_far in_round unlike =
+    let was = so_far.spans in
+    let first = so_far.begin in
+    let begun = was.begun in
+    record {
+      begin = place;
+      spans = record {
+        before = was.before + 1;
+        spans = has_more plan c first was.before place was.spans (record {
+          after = begun;
+          within = omega arith;
+          alike = was.alike;
+          maximal = inr (λ same.
+              unlike (spot_through plan c (place - 1) first place
+              (spot_back plan c first (place - 1) (was.alike (place - 1) (omega arith) (omega arith))) same));
+        });
+        count_is = (let is = was.count_is in omega arith);
+        begun = omega arith;
+        few = (let few = was.few in omega arith);
+        alike = λ x low lt. same_spot plan c place x
+            (λ d. ap (owner_at plan.rows d) (let is : place ≡ x = omega arith in is));
+      };
+    }
 
 -- with the round the last span ends
-pub counted_whole : (plan : PlanView) (c place begin count : ℕ) → AreSpansCounted plan c place begin count
-    → place ≡ ROUND → HasSpans plan c ROUND count
-counted_whole plan c place begin count was whole =
+pub counted_whole : (plan : PlanView) (c count : ℕ) → IsCounted plan c ROUND count → HasSpans plan c ROUND count
+counted_whole plan c count so_far =
+    let was = so_far.spans in
     subst (λ (n : ℕ). HasSpans plan c ROUND n) (sym was.count_is)
-    (has_more plan c begin was.before ROUND was.spans (record {
-      after = (let lt = was.begun in omega arith);
+    (has_more plan c so_far.begin was.before ROUND was.spans (record {
+      after = was.begun;
       within = omega arith;
-      alike = λ x low lt. was.alike x low (omega arith);
+      alike = was.alike;
       maximal = inl refl;
     }))
+
+-- ---- the core's own row
+
+-- the core's own row is whole
+pub record IsOwnRow (plan : PlanView) (c : ℕ) (row : Row) : Type 0 where
+  pub is : slice_get plan.rows c ≡ Some row
+  pub size : length row ≡ ROUND
+
+-- at a tick that begins a segment the spot is another one
+own_new : (plan : PlanView) (c x : ℕ) (row : Row) → IsOwnRow plan c row
+    → IsNewSegment 0 (segments_from 0 row) x → SameSpot plan c (x - 1) x → ⊥
+own_new plan c x row own new same = new.other
+    (sym (owner_of plan.rows c (x - 1) row new.was own.is (row_cell row (x - 1) ∙ new.before))
+    ∙ (same.owner ∙ owner_of plan.rows c x row new.owner own.is (row_cell row x ∙ new.here)))
+
+-- at another one it shows the same owner
+own_old : (plan : PlanView) (c x : ℕ) (row : Row) → IsOwnRow plan c row
+    → IsOldSegment 0 (segments_from 0 row) x → owner_at plan.rows c (x - 1) ≡ owner_at plan.rows c x
+own_old plan c x row own old =
+    ap (λ (r : Option Row). cell_of r (x - 1)) own.is
+    ∙ (ap flat (row_cell row (x - 1) ∙ (old.same ∙ sym (row_cell row x)))
+    ∙ sym (ap (λ (r : Option Row). cell_of r x) own.is))
+
+-- one owner and one set of vCPUs away are one spot
+spot_of : (plan : PlanView) (c x y : ℕ) → owner_at plan.rows c x ≡ owner_at plan.rows c y
+    → AreAwayAlike plan c x y → SameSpot plan c x y
+spot_of plan c x y owner away = record { owner = owner; away = away.away; back = away.back }
+
+-- as many spans as segments begin in a tick at which nobody comes or goes
+pub counted_tick : (plan : PlanView) (c place more : ℕ) (row : Row) → IsOwnRow plan c row → 0 < place
+    → place < ROUND → AreAwayAlike plan c (place - 1) place
+    → IsCounted plan c place (1 + passed (segments_from 0 row) (place - 1) + more)
+    → IsCounted plan c (place + 1) (1 + passed (segments_from 0 row) place + more)
+counted_tick plan c place more row own some in_round away so_far =
+    let ts = segments_from 0 row in
+    elim (segment_cases 0 ts ROUND place (row_maximal row own.size) some in_round) [
+      | inl new ↦
+          let n = new.counts in
+          subst (IsCounted plan c (place + 1))
+          (let e : 1 + passed ts (place - 1) + more + 1 ≡ 1 + passed ts place + more = omega arith in e)
+          (counted_new plan c place (1 + passed ts (place - 1) + more) so_far in_round
+          (own_new plan c place row own new))
+      | inr old ↦
+          subst (IsCounted plan c (place + 1))
+          (let n = old.counts in
+          let e : 1 + passed ts (place - 1) + more ≡ 1 + passed ts place + more = omega arith in e)
+          (counted_more plan c place (1 + passed ts (place - 1) + more) so_far
+          (spot_of plan c (place - 1) place (own_old plan c place row own old) away))
+    ]
+
+-- and so in many ticks
+pub counted_run : (plan : PlanView) (c from n to more : ℕ) (row : Row) → IsOwnRow plan c row → to ≡ from + n
+    → to < ROUND → ((x : ℕ) → from < x → x ≤ to → AreAwayAlike plan c (x - 1) x)
+    → IsCounted plan c (from + 1) (1 + passed (segments_from 0 row) from + more)
+    → IsCounted plan c (to + 1) (1 + passed (segments_from 0 row) to + more)
+counted_run plan c from zero to more row own is in_round away so_far =
+    subst (λ (x : ℕ). IsCounted plan c (x + 1) (1 + passed (segments_from 0 row) x + more))
+    (let e : from ≡ to = omega arith in e) so_far
+counted_run plan c from (suc n) to more row own is in_round away so_far =
+    let before = counted_run plan c from n (to - 1) more row own (omega arith) (omega arith)
+    (λ x low le. away x low (omega arith)) so_far in
+    counted_tick plan c to more row own (omega arith) in_round (away to (omega arith) (omega arith))
+    (subst (λ (x : ℕ). IsCounted plan c x (1 + passed (segments_from 0 row) (to - 1) + more))
+    (let e : to - 1 + 1 ≡ to = omega arith in e) before)
+
+-- at a place where the own row's segment ends a span begins
+pub counted_end : (plan : PlanView) (c place more : ℕ) (row : Row) → IsOwnRow plan c row → 0 < place
+    → place < ROUND → passed (segments_from 0 row) place ≡ passed (segments_from 0 row) (place - 1) + 1
+    → IsCounted plan c place (1 + passed (segments_from 0 row) (place - 1) + more)
+    → IsCounted plan c (place + 1) (1 + passed (segments_from 0 row) place + more)
+counted_end plan c place more row own some in_round ends so_far =
+    let ts = segments_from 0 row in
+    elim (segment_cases 0 ts ROUND place (row_maximal row own.size) some in_round) [
+      | inl new ↦
+          subst (IsCounted plan c (place + 1))
+          (let e : 1 + passed ts (place - 1) + more + 1 ≡ 1 + passed ts place + more = omega arith in e)
+          (counted_new plan c place (1 + passed ts (place - 1) + more) so_far in_round
+          (own_new plan c place row own new))
+      | inr old ↦ absurd (let n = old.counts in omega arith)
+    ]
+
+-- where it goes on, one begins where somebody came or went
+pub counted_change : (plan : PlanView) (c place more : ℕ) (row : Row) → IsOwnRow plan c row
+    → place < ROUND → passed (segments_from 0 row) place ≡ passed (segments_from 0 row) (place - 1)
+    → (SameSpot plan c (place - 1) place → ⊥)
+    → IsCounted plan c place (1 + passed (segments_from 0 row) (place - 1) + more)
+    → IsCounted plan c (place + 1) (1 + passed (segments_from 0 row) place + (more + 1))
+counted_change plan c place more row own in_round goes_on unlike so_far =
+    let ts = segments_from 0 row in
+    subst (IsCounted plan c (place + 1))
+    (let e : 1 + passed ts (place - 1) + more + 1 ≡ 1 + passed ts place + (more + 1) = omega arith in e)
+    (counted_new plan c place (1 + passed ts (place - 1) + more) so_far in_round unlike)

@@ -4,7 +4,7 @@ ghost use Rattle.table_form.specs.Tables.Spots.{HasSpans};
 ghost use Rattle.table_form.specs.Tables.Views.{plan_view};
 ghost use Rattle.run_limit.specs.StintBounds.{AreLargestSpans, IsStintBound, stints_of_round};
 
-use crate::holders::ROWS;
+use crate::visits::ROWS;
 use crate::walk::spans_of_rows;
 use std::cmp::max;
 use std::marker::Model;

@@ -1,21 +1,25 @@
-use Rattle.std.proofs.Common.{ℕ, ◌-◌, ◌<◌, ◌≤◌, length}
-use Rattle.std.specs.Prelude.{slice_index}
+use Rattle.std.proofs.Common.{ℕ, ◌+◌, ◌-◌, ◌<◌, ◌≤◌, map}
 use Rattle.tab_core.specs.declared.TheConstants.{ROUND}
+use Rattle.table_form.specs.Tables.Segments.{segment_view}
 use Rattle.table_form.specs.Tables.Views.{plan_view}
-use Rattle.run_limit.specs.Inside.Walks.{AreBeginsWithin, AreOwnedUpTo, AreSpansCounted}
+use Rattle.run_limit.specs.Inside.Walks.{AreAllLanes, AreLanes, EndFrom, passed}
+use Rattle.run_limit.specs.declared.visits.TheConstants.{ROWS}
+use Rattle.run_limit.proofs.WalkLemmas.{IsCounted}
 use Rattle.run_limit.proofs.walk.walk.Given as goal
 
--- each row is held from a place before this one up to it at least, and the spans before it are counted
+-- the lanes are known from a place before this one up to it, and the spans up to that place are counted
 abbrev pub invariant-walking : goal.invariant-walking
 invariant-walking l = record {
   from : ℕ;
   before : from < l.place;
   in_round : l.place ≤ ROUND;
-  held : AreOwnedUpTo l.plan.tables.rows from l.holders.owners l.holders.ends;
-  least : (d : ℕ) → d < length l.plan.tables.rows → l.place ≤ slice_index l.holders.ends d;
-  within : AreBeginsWithin from l.begun;
-  counted : (c : ℕ) → c < length l.plan.tables.rows
-      → AreSpansCounted (plan_view l.plan) c l.place (slice_index l.begun.begins c) (slice_index l.begun.counts c);
+  few : l.lanes.count ≤ ROWS;
+  all : AreAllLanes (plan_view l.plan) l.row l.lanes;
+  lanes : AreLanes (plan_view l.plan) l.row from l.lanes;
+  ends : EndFrom l.place l.lanes;
+  at_low : l.at ≤ passed (map segment_view l.own) from;
+  more_few : l.more ≤ from;
+  counted : IsCounted (plan_view l.plan) l.row (from + 1) (1 + passed (map segment_view l.own) from + l.more);
 }
 
 abbrev pub decreases-walking : goal.decreases-walking
