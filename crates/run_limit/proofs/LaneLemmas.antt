@@ -78,7 +78,7 @@ next_after rows d next place row ss s of at is = elim (cases_lt place s.end) [
       (view_at rows d next row ss s of at) le in omega arith)
 ]
 
--- and each later one does
+-- each segment from the next one on ends after the place
 pub last_after : (rows : List Row) (d next place last : ℕ) (row : Row) (ss : List Segment) (s : Segment)
     → AreOfRow rows d row ss → slice_get ss last ≡ Some s → next ≡ passed (segments_from 0 row) place
     → next ≤ last → place < s.end
@@ -245,7 +245,7 @@ pushed_keeps lanes d new has =
       row = has.row;
     }
 
--- and its row has one
+-- the row of the lane that is pushed has a lane
 pub pushed_has : (lanes : Lanes) (d : ℕ) (new : Lane) → lanes.count < length lanes.items → new.row ≡ d
     → HasLane (pushed lanes new) d
 pushed_has lanes d new room row = record {

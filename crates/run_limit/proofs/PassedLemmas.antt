@@ -45,7 +45,7 @@ ends_after start (u ∷ ts) end zero t m at =
 ends_after start (u ∷ ts) end (suc i) t m at =
     (let lt = m.0 in let rest = ends_after u.end ts end i t m.2 at in omega arith)
 
--- and no later than the end
+-- each segment ends no later than the end
 pub ends_within : (start : ℕ) (ts : List SegmentView) (end i : ℕ) (t : SegmentView) → AreMaximal start ts end
     → slice_get ts i ≡ Some t → t.end ≤ end
 ends_within start [] end i t m at = absurd cc

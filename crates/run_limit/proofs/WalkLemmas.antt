@@ -79,7 +79,7 @@ away_was plan c x v lanes all before away =
       was = is.only v away.home (ap (λ (d : ℕ). owner_at plan.rows d x) lane.row ∙ away.stands);
     }
 
--- the same vCPUs are away at both places
+-- at both places the same vCPUs are away
 pub record AreAwayAlike (plan : PlanView) (c x y : ℕ) : Type 0 where
   pub away : (v : ℕ) → IsAway plan c x v → IsAway plan c y v
   pub back : (v : ℕ) → IsAway plan c y v → IsAway plan c x v
@@ -101,7 +101,7 @@ same_alike plan c x y lanes all before shown same = record {
       (same.are_old v (away_here plan c y v lanes all shown a));
 }
 
--- and only there
+-- only where the spot stays have the lanes whom they had
 pub alike_same : (plan : PlanView) (c x y : ℕ) (lanes : Lanes) → AreAllLanes plan c lanes
     → AreBefore plan c x lanes → AreShown plan c y lanes → SameSpot plan c x y → AreSame lanes
 alike_same plan c x y lanes all before shown same = record {
@@ -250,7 +250,7 @@ counted_tick plan c place more row own some in_round away so_far =
           (spot_of plan c (place - 1) place (own_old plan c place row own old) away))
     ]
 
--- and so in many ticks
+-- many ticks in which nobody comes or leaves add no more than their own segments
 pub counted_run : (plan : PlanView) (c from n to more : ℕ) (row : Row) → IsOwnRow plan c row → to ≡ from + n
     → to < ROUND → ((x : ℕ) → from < x → x ≤ to → AreAwayAlike plan c (x - 1) x)
     → IsCounted plan c (from + 1) (1 + passed (segments_from 0 row) from + more)
