@@ -123,7 +123,7 @@ TellsOfPlan host tasks text =
 abbrev pub IsStayText : Host → List ℕ → Type 0
 IsStayText host text = TellsOfBudgets TellsOfPlan host text
 
--- the text says what this line of the plan text is, and which line is wanted there
+-- the text says how this line of the plan text is wrong for the host with these budgets
 abbrev pub TellsOfLine : List ℕ → ℕ → Host → List (Option Periodic) → List ℕ → Type 0
 TellsOfLine plan line host tasks text =
     text ≡ plan_line_text plan line host.cores (names_of host.vcpus) tasks

@@ -1,9 +1,13 @@
 -- The advice on a plan text: the line that is found and the one that is wanted, and what its tables break.
-use Rattle.std.specs.Prelude.{ℕ, ◌+◌, ◌-◌, nat_le, if◌then◌else◌, List, [], ◌∷◌, ◌++◌, codes, decimal, length, slice_get, Option, Some, None}
+use Rattle.std.specs.Prelude.{ℕ, Bool, false, ◌+◌, ◌-◌, ◌&&◌, nat_le, nat_lt, if◌then◌else◌, List, [], ◌∷◌, ◌++◌, bytes_eq, codes, decimal, length, slice_get, Option, Some, None}
 use Rattle.tab_core.specs.declared.periodic.Periodic.{Periodic}
+use Rattle.tab_words.specs.Lines.{lines_of}
+use Rattle.tab_words.specs.Words.{words_of}
 use Rattle.vcpu_names.specs.Names.{name_at}
 use Rattle.advice.specs.Lines.{line_at}
 use Rattle.advice.specs.Parts.{quoted}
+use Rattle.advice.specs.declared.plan_lines.BadLine.{BadLine}
+use Rattle.advice.specs.declared.plan_lines.BadLine.TheVariants.{Truncated, Trailing, Unwanted}
 
 -- the numbers and the budgets of the admitted vCPUs, of which the first may have this number
 abbrev pub admitted_from : ℕ → List (Option Periodic) → List (ℕ × Periodic)
@@ -11,10 +15,45 @@ admitted_from number [] = []
 admitted_from number (None ∷ tasks) = admitted_from (number + 1) tasks
 admitted_from number (Some task ∷ tasks) = (number, task) ∷ admitted_from (number + 1) tasks
 
--- the bad line of a plan text: its number, from 1, and the line itself in quotes
-abbrev pub found_line_text : List ℕ → ℕ → List ℕ
-found_line_text plan number = codes "tableau: plan line "
-    ++ (decimal number ++ (codes " is " ++ (quoted (line_at number plan)
+-- these are the words of a plan text's last line
+abbrev pub are_end : List (List ℕ) → Bool
+are_end (word ∷ []) = bytes_eq word (codes "end")
+are_end words = false
+
+-- the line before that of this number, from 1, is the line `end`
+abbrev pub is_after_end : ℕ → List ℕ → Bool
+is_after_end number plan = nat_lt 1 number && are_end (words_of (line_at (number - 1) plan))
+
+-- how a line is wrong, where there is one, before which the plan may have ended
+abbrev pub bad_after : Bool → Option (List ℕ) → BadLine
+bad_after ended None = Truncated
+bad_after ended (Some line) = if ended then Trailing else Unwanted
+
+-- how the line of this number, from 1, of a plan text is wrong
+abbrev pub bad_line : ℕ → List ℕ → BadLine
+bad_line number plan = bad_after (is_after_end number plan) (slice_get (lines_of plan) (number - 1))
+
+-- the advice on a plan text that stops before the line of this number, from 1
+abbrev pub truncated_text : ℕ → List ℕ
+truncated_text number = codes "tableau: the plan text stops before its line "
+    ++ (decimal number ++ codes "; a whole one ends with the line end\n")
+
+-- the advice on the line of this number, from 1, that follows the line `end`
+abbrev pub trailing_text : ℕ → List ℕ → List ℕ
+trailing_text number line = codes "tableau: plan line "
+    ++ (decimal number ++ (codes " is " ++ (quoted line ++ codes ", and nothing follows the line end\n")))
+
+-- the advice on a plan text whose line of this number, from 1, is wrong; `unwanted` is what is said where another
+-- line is wanted there
+abbrev pub bad_line_text : BadLine → ℕ → List ℕ → List ℕ → List ℕ
+bad_line_text Truncated number line unwanted = truncated_text number
+bad_line_text Trailing number line unwanted = trailing_text number line
+bad_line_text Unwanted number line unwanted = unwanted
+
+-- the line of this number, from 1, that isn't wanted, in quotes
+abbrev pub found_line_text : ℕ → List ℕ → List ℕ
+found_line_text number line = codes "tableau: plan line "
+    ++ (decimal number ++ (codes " is " ++ (quoted line
     ++ codes "; was the host changed since the plan was made?\n")))
 
 -- the first line of a plan text
@@ -45,9 +84,14 @@ wanted_line_text number cores names tasks = if nat_le number 1
     then wanted_head_text cores (length (admitted_from 0 tasks))
     else behind_head names (slice_get (admitted_from 0 tasks) (number - 2))
 
--- the advice on a plan text whose line of this number, from 1, is wrong: that line, and what is wanted there
+-- the line of this number, from 1, that isn't wanted, and the one that is
+abbrev pub unwanted_text : ℕ → List ℕ → ℕ → List (List ℕ) → List (Option Periodic) → List ℕ
+unwanted_text number line cores names tasks = found_line_text number line ++ wanted_line_text number cores names tasks
+
+-- the advice on a plan text whose line of this number, from 1, is wrong for a host
 abbrev pub plan_line_text : List ℕ → ℕ → ℕ → List (List ℕ) → List (Option Periodic) → List ℕ
-plan_line_text plan number cores names tasks = found_line_text plan number ++ wanted_line_text number cores names tasks
+plan_line_text plan number cores names tasks = bad_line_text (bad_line number plan) number (line_at number plan)
+    (unwanted_text number (line_at number plan) cores names tasks)
 
 -- what is wanted on this line of an earlier plan's text, whichever host it was made for
 abbrev pub old_wanted_text : ℕ → List ℕ
@@ -55,12 +99,17 @@ old_wanted_text number = if nat_le number 1
     then codes "is plan cores CORES vcpus COUNT, the first line that tableau plan writes"
     else codes "are lines vcpu NAME period TICKS cost TICKS home CORE, then for each core its line core C\ntableau: and END NAME or END - of its segments, and end as the last line"
 
--- the advice on an earlier plan's text whose line of this number, from 1, is wrong, and what is wanted there
-abbrev pub old_line_text : List ℕ → ℕ → List ℕ
-old_line_text plan number = codes "tableau: plan line "
-    ++ (decimal number ++ (codes " is " ++ (quoted (line_at number plan)
+-- the line of this number, from 1, of an earlier plan's text, that isn't wanted, and the form that is
+abbrev pub old_unwanted_text : ℕ → List ℕ → List ℕ
+old_unwanted_text number line = codes "tableau: plan line "
+    ++ (decimal number ++ (codes " is " ++ (quoted line
     ++ (codes ", and no line of a plan text there\ntableau: wanted "
     ++ (old_wanted_text number ++ codes "\n")))))
+
+-- the advice on an earlier plan's text whose line of this number, from 1, is wrong, whichever host it was made for
+abbrev pub old_line_text : List ℕ → ℕ → List ℕ
+old_line_text plan number = bad_line_text (bad_line number plan) number (line_at number plan)
+    (old_unwanted_text number (line_at number plan))
 
 -- the advice on a plan whose segment of this place on a core, from 0, doesn't end where it may
 abbrev pub shape_text : ℕ → ℕ → List ℕ

@@ -1,14 +1,28 @@
-ghost use Rattle.std.specs.Prelude.{◌≡◌, ◌≤◌, length, slice_get};
+ghost use Rattle.std.specs.Prelude.{◌≡◌, ◌≤◌, [], length, slice_get, slice_index_or};
 ghost use Rattle.tab_core.specs.declared.TheConstants.{MAX_VCPUS};
 ghost use Rattle.tab_io.specs.Sinks.{Writes};
+ghost use Rattle.tab_words.specs.Words.{words_of};
 ghost use Rattle.vcpu_names.specs.Names.{names_of};
-ghost use Rattle.advice.specs.PlanLines.{admitted_from, behind_head, found_line_text, old_line_text, old_wanted_text, plan_line_text, shape_text, short_text, twice_text, wanted_head_text, wanted_line_text, wanted_table_text, wanted_vcpu_text};
+ghost use Rattle.advice.specs.Lines.{line_at};
+ghost use Rattle.advice.specs.PlanLines.{admitted_from, are_end, bad_after, bad_line, behind_head, found_line_text, old_line_text, old_unwanted_text, old_wanted_text, plan_line_text, shape_text, short_text, trailing_text, truncated_text, twice_text, unwanted_text, wanted_head_text, wanted_line_text, wanted_table_text, wanted_vcpu_text};
 
-use crate::line::line_at;
+use crate::line::{first_of, lines_after};
 use crate::part::{Part, put_parts};
 use tab_core::{CoreNo, Host, Periodic, Tasks, Vcpu, VcpuNo};
 use tab_io::{Sink, WriteFault, write_all};
+use tab_words::{Lines, Words};
 use vcpu_names::name_in;
+
+// How a line of a plan text is wrong.
+#[derive(Clone, Copy)]
+pub(crate) enum BadLine {
+    // The text stops before it.
+    Truncated,
+    // It follows the line `end`.
+    Trailing,
+    // It isn't the line that is wanted there.
+    Unwanted,
+}
 
 // Writes the advice on a plan text whose line of this number is none for the host.
 pub(crate) fn put_plan_line<K: Sink>(
@@ -21,14 +35,65 @@ pub(crate) fn put_plan_line<K: Sink>(
     ensures { Writes (K.state sink.old) (K.state sink.new)
         (plan_line_text plan.now number host.now.cores (names_of host.now.vcpus) tasks.now) result }
 {
-    if let Err(fault) = put_found(sink, plan, number) {
-        return Err(fault);
+    let (bad, line) = bad_line(plan, number);
+    match bad {
+        BadLine::Truncated => put_truncated(sink, number),
+        BadLine::Trailing => put_trailing(sink, number, line),
+        BadLine::Unwanted => put_unwanted(sink, number, line, host, tasks),
     }
-    put_wanted(sink, number, host, tasks)
 }
 
-fn put_found<K: Sink>(sink: &mut K, plan: &[u8], number: u32) -> Result<(), WriteFault>
-    ensures { Writes (K.state sink.old) (K.state sink.new) (found_line_text plan.now number) result }
+// How the line of this number, from 1, of a plan text is wrong, and that line, or nothing where there is none.
+fn bad_line(plan: &[u8], number: u32) -> (BadLine, &[u8])
+    ensures bad { result.0 ≡ bad_line number plan.now }
+    ensures line { result.1.now ≡ line_at number plan.now }
+{
+    if number <= 1 {
+        return first_bad(&mut Lines::over(plan), false);
+    }
+    let mut lines = lines_after(plan, number - 2);
+    let ended = is_end(first_of(&mut lines));
+    first_bad(&mut lines, ended)
+}
+
+// How the first of these lines is wrong, before which the plan may have ended, and that line.
+fn first_bad<'a>(lines: &mut Lines<'a>, ended: bool) -> (BadLine, &'a [u8])
+    ensures bad { result.0 ≡ bad_after ended (slice_get lines.old 0) }
+    ensures line { result.1.now ≡ slice_index_or lines.old 0 [] }
+{
+    match lines.next() {
+        None => (BadLine::Truncated, b""),
+        Some(line) if ended => (BadLine::Trailing, line),
+        Some(line) => (BadLine::Unwanted, line),
+    }
+}
+
+// Whether the line is the last one of a plan text.
+fn is_end(line: &[u8]) -> bool
+    ensures { result ≡ are_end (words_of line.now) }
+{
+    let mut words = Words::of(line);
+    match words.next() {
+        Some(word) => word == b"end".as_slice() && words.next().is_none(),
+        None => false,
+    }
+}
+
+fn put_truncated<K: Sink>(sink: &mut K, number: u32) -> Result<(), WriteFault>
+    ensures { Writes (K.state sink.old) (K.state sink.new) (truncated_text number) result }
+{
+    put_parts(
+        sink,
+        &[
+            Part::Text(b"tableau: the plan text stops before its line "),
+            Part::Number(number),
+            Part::Text(b"; a whole one ends with the line end\n"),
+        ],
+    )
+}
+
+fn put_trailing<K: Sink>(sink: &mut K, number: u32, line: &[u8]) -> Result<(), WriteFault>
+    ensures { Writes (K.state sink.old) (K.state sink.new) (trailing_text number line.now) result }
 {
     put_parts(
         sink,
@@ -36,7 +101,39 @@ fn put_found<K: Sink>(sink: &mut K, plan: &[u8], number: u32) -> Result<(), Writ
             Part::Text(b"tableau: plan line "),
             Part::Number(number),
             Part::Text(b" is "),
-            Part::Quoted(line_at(plan, number)),
+            Part::Quoted(line),
+            Part::Text(b", and nothing follows the line end\n"),
+        ],
+    )
+}
+
+// Writes which line is there, and the one that is wanted for the host.
+fn put_unwanted<K: Sink>(
+    sink: &mut K,
+    number: u32,
+    line: &[u8],
+    host: &Host,
+    tasks: &Tasks,
+) -> Result<(), WriteFault>
+    ensures { Writes (K.state sink.old) (K.state sink.new)
+        (unwanted_text number line.now host.now.cores (names_of host.now.vcpus) tasks.now) result }
+{
+    if let Err(fault) = put_found(sink, number, line) {
+        return Err(fault);
+    }
+    put_wanted(sink, number, host, tasks)
+}
+
+fn put_found<K: Sink>(sink: &mut K, number: u32, line: &[u8]) -> Result<(), WriteFault>
+    ensures { Writes (K.state sink.old) (K.state sink.new) (found_line_text number line.now) result }
+{
+    put_parts(
+        sink,
+        &[
+            Part::Text(b"tableau: plan line "),
+            Part::Number(number),
+            Part::Text(b" is "),
+            Part::Quoted(line),
             Part::Text(b"; was the host changed since the plan was made?\n"),
         ],
     )
@@ -152,13 +249,25 @@ pub(crate) fn put_old_line<K: Sink>(
 ) -> Result<(), WriteFault>
     ensures { Writes (K.state sink.old) (K.state sink.new) (old_line_text plan.now number) result }
 {
+    let (bad, line) = bad_line(plan, number);
+    match bad {
+        BadLine::Truncated => put_truncated(sink, number),
+        BadLine::Trailing => put_trailing(sink, number, line),
+        BadLine::Unwanted => put_old_unwanted(sink, number, line),
+    }
+}
+
+// Writes which line is there, and the form that is wanted.
+fn put_old_unwanted<K: Sink>(sink: &mut K, number: u32, line: &[u8]) -> Result<(), WriteFault>
+    ensures { Writes (K.state sink.old) (K.state sink.new) (old_unwanted_text number line.now) result }
+{
     put_parts(
         sink,
         &[
             Part::Text(b"tableau: plan line "),
             Part::Number(number),
             Part::Text(b" is "),
-            Part::Quoted(line_at(plan, number)),
+            Part::Quoted(line),
             Part::Text(b", and no line of a plan text there\ntableau: wanted "),
             Part::Text(old_wanted_text(number)),
             Part::Text(b"\n"),

@@ -1,6 +1,6 @@
 use Rattle.std.proofs.Common.{◌≡◌, drop}
 use Rattle.tab_words.specs.Lines.{lines_of}
-use Rattle.advice.proofs.line.line_at.Given as goal
+use Rattle.advice.proofs.line.lines_after.Given as goal
 
 -- so many lines were stepped over
 abbrev pub invariant-loop : goal.invariant-loop

@@ -1,5 +1,5 @@
 use Rattle.tab_io.proofs.SinkLemmas.{writes_broken, writes_then}
-use Rattle.advice.proofs.plan_lines.put_plan_line.Goals as goal
+use Rattle.advice.proofs.plan_lines.put_unwanted.Goals as goal
 
 pub returns-in-Err : goal.returns-in-Err
 returns-in-Err g c = writes_broken _ _ _ _ _ c.in-Err.fault c.put_found.ensures c.in-Err.is

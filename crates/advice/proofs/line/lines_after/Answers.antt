@@ -1,6 +1,6 @@
 use Rattle.std.proofs.Common.{ap, drop, ◌∙◌, List, ℕ}
 use Rattle.std.proofs.lemmas.List.{drop-drop}
-use Rattle.advice.proofs.line.line_at.Goals as goal
+use Rattle.advice.proofs.line.lines_after.Goals as goal
 
 pub loop-preserved : goal.loop-preserved
 loop-preserved c = c.step_over.ensures
