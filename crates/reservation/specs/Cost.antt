@@ -9,7 +9,7 @@ pub record IsLeastCost (share_ppm period ticks : ℕ) : Type 0 where
   pub enough : share_ppm * period ≤ ticks * WHOLE_PPM
   pub least : (fewer : ℕ) → share_ppm * period ≤ fewer * WHOLE_PPM → ticks ≤ fewer
 
--- that number: the share of the period, rounded up to a whole tick
+-- the cost of a share: the share of the period, rounded up to a whole tick
 abbrev pub cost : ℕ → ℕ → ℕ
 cost share_ppm period = (share_ppm * period + (WHOLE_PPM - 1)) / WHOLE_PPM
 

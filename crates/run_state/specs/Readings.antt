@@ -9,8 +9,8 @@ use Rattle.round_words.specs.declared.view.View.{View}
 use Rattle.round_words.specs.Views.{controller, part, last_of}
 use Rattle.dispatch_core.specs.Parts.{used_counts}
 
--- the count has each event of tick at most x less the lag: all events after the first `count` come later
--- than that
+-- the count has each event whose tick and the lag come to x at most: for all events after the first `count` they
+-- come to more
 abbrev pub has_up_to : CourseView → ℕ → ℕ → Bool
 has_up_to course count x = list_all (λ tick. nat_lt x (tick + course.lag)) (drop count course.ticks)
 
