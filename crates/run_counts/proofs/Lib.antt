@@ -2,7 +2,9 @@ pub mod JoinLemmas
 pub mod OneReport
 pub mod RepeatLemmas
 pub mod ReportLemmas
+pub mod RowLemmas
 pub mod RunLemmas
 pub mod SegmentLemmas
 pub mod StretchLemmas
 pub mod SweepLemmas
+pub mod WalkLemmas

@@ -1,3 +1,4 @@
 pub mod Repeats
 pub mod Sweeps
 pub mod Tells
+pub mod Walks

@@ -6,12 +6,14 @@ ghost use Rattle.run_counts.specs.Inside.Sweeps.{EndsBy, closed};
 ghost use Rattle.run_counts.specs.Inside.Tells.{IsToldRound};
 ghost use Rattle.run_counts.specs.Stretches.{no_ticks, stretch_at};
 
+use crate::row_pass::offer_rows;
 use crate::stretch::Stretch;
-use crate::sweep::{ROWS, offer_owners, steady_to};
+use crate::walk::walk_late;
 use tab_core::{Periodic, ROUND};
 use table_form::Plan;
 
-// What a round with this plan gives each vCPU, by number: one sweep over the segments of all rows.
+// What a round with this plan gives each vCPU, by number: one pass over the rows, and a walk for each vCPU
+// whose segments that pass doesn't meet in the order of time.
 pub(crate) fn describe(plan: &Plan, stretches: &mut [Stretch])
     requires size { length stretches.old ≡ MAX_VCPUS }
     ensures size { length stretches.new ≡ MAX_VCPUS }
@@ -19,13 +21,8 @@ pub(crate) fn describe(plan: &Plan, stretches: &mut [Stretch])
 {
     let rows = plan.tables.rows.items();
     clear(stretches);
-    let mut numbers = [0; ROWS];
-    let mut place = 0;
-    'sweeping: while place < ROUND {
-        let end = steady_to(rows, place, &mut numbers);
-        offer_owners(rows, place, end, &numbers, stretches);
-        place = end;
-    }
+    offer_rows(rows, stretches);
+    walk_late(rows, stretches);
     close(plan.tasks.items(), stretches);
 }
 
