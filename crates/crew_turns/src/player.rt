@@ -44,6 +44,6 @@ pub(crate) fn step_player<A: Stepper + Drop, G: Gate>(
     site.gate.pass(number, player.steps);
     site.gate
         .reached(number, player.steps, player.actor.place());
-    player.steps = player.steps.saturating_add(1);
+    player.steps = player.steps.wrapping_add(1);
     player.actor.step(site.board, seat)
 }

@@ -23,22 +23,23 @@ pub(crate) fn work<A: Stepper + Drop, G: Gate>(
     ensures same { A.kind.same player.actor result.1.actor }
     ensures actors { SameActors (view_of seat) (view_of result.0) }
 {
-    let mut left = patience.turns();
+    let mut turns = patience.turns();
+    let mut left = turns;
     let mut sights = patience.sights();
     let mut awaits = 0;
     'working: while left > 0 {
         match step_player(site, &mut seat, &mut player) {
-            Turn::Moved => left = patience.turns(),
+            Turn::Moved => left = turns,
             Turn::Waits { tick } => {
                 if tick != awaits && sights > 0 {
                     sights -= 1;
                     awaits = tick;
-                    left = patience.turns();
-                    patience.wait(left);
-                    continue 'working;
+                    left = turns;
+                } else {
+                    left -= 1;
                 }
-                left -= 1;
                 patience.wait(left);
+                turns = patience.turns();
             }
             Turn::Stopped | Turn::Ended => return (seat, player),
         }

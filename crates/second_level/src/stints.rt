@@ -68,35 +68,47 @@ pub fn next_stint_in(
         used,
         last,
     } = *begin;
-    let ran = choose(span, outline.runnable_after(seen), last);
-    let shared = is_other(span, &ran);
-    let last = last_pick(shared, &ran, &last);
+    let chosen = choose(span, outline.runnable_after(seen), last);
+    let last = last_pick(chosen.shared, &chosen.ran, &last);
     let (lag, quantum) = (outline.lag(), outline.quantum());
-    let end = end_of(start, span.end, from, lag, quantum, shared);
+    let end = end_of(start, span.end, from, lag, quantum, chosen.shared);
     Next {
         stint: Stint {
             from,
             end,
             seen,
             used,
-            ran,
+            ran: chosen.ran,
         },
-        shared,
+        shared: chosen.shared,
         last,
     }
 }
 
+// Whom a core runs in a span, and whether that is somebody other than its owner.
+#[derive(Clone, Copy)]
+struct Choice {
+    ran: Option<VcpuNo>,
+    shared: bool,
+}
+
 // Whom the core runs in the span: the owner if it is runnable, otherwise the pick among the sharers.
 #[inline(always)]
-fn choose(span: &Span<'_>, runnable: &VcpuSet, last: Option<VcpuNo>) -> Option<VcpuNo>
-    ensures slot { owner_runs span.now.owner runnable.now ≡ true → result ≡ span.now.owner }
-    ensures shared { owner_runs span.now.owner runnable.now ≡ false
-        → IsPick (IsInBoth span.now.sharers.now runnable.now) last result }
+fn choose(span: &Span<'_>, runnable: &VcpuSet, last: Option<VcpuNo>) -> Choice
+    ensures slot { owner_runs span.now.owner runnable.now ≡ true → result.ran ≡ span.now.owner }
+    ensures pick { owner_runs span.now.owner runnable.now ≡ false
+        → IsPick (IsInBoth span.now.sharers.now runnable.now) last result.ran }
+    ensures other { result.shared ≡ runs_other span.now.owner result.ran }
 {
     if owner_can_run(span, runnable) {
-        return span.owner;
+        return Choice {
+            ran: span.owner,
+            shared: false,
+        };
     }
-    pick_common(last, span.sharers, runnable)
+    let ran = pick_common(last, span.sharers, runnable);
+    let shared = is_other(span, &ran);
+    Choice { ran, shared }
 }
 
 fn owner_can_run(span: &Span<'_>, runnable: &VcpuSet) -> bool

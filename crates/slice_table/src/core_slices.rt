@@ -108,6 +108,7 @@ impl SliceTable {
 
     /// The span of this number, if there is one and it holds this tick of a round: for a caller that
     /// has a guess.
+    #[inline(always)]
     pub fn span_guessed(&self, tick: u32, guess: u32) -> Option<Span<'_>>
         ensures none { IfNone result (HoldsTick (ends_of self.now) guess tick → ⊥) }
         ensures after { IfSome result (λ span. tick < span.end) }

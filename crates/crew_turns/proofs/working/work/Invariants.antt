@@ -9,7 +9,7 @@ invariant-working g l = record {
   agrees : g.A.Stepper.kind.agrees l.player.actor (view_of l.seat);
   same : g.A.Stepper.kind.same l.fn.player.actor l.player.actor;
   actors : SameActors (view_of l.fn.seat) (view_of l.seat);
-  few : l.left ≤ 10000000;
+  few : (l.left ≤ 10000000) × (l.turns ≤ 10000000);
 }
 
 abbrev pub decreases-working : goal.decreases-working
