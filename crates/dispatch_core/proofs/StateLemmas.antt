@@ -15,7 +15,7 @@ use Rattle.round_words.specs.Changes.{ChangesOnly}
 use Rattle.round_words.specs.Views.{last_of, part}
 use Rattle.round_words.proofs.ChangesLemmas.{core_still, started_still}
 use Rattle.dispatch_core.specs.declared.log.CoreLog.{CoreLog}
-use Rattle.dispatch_core.specs.Accounts.{IsAccountOf}
+use Rattle.run_counts.specs.Accounts.{IsAccountOf}
 use Rattle.dispatch_core.specs.Inside.Logs.{IsNewLog, log_view}
 use Rattle.dispatch_core.specs.Parts.{HasSeen, IsNewPart, IsOfOutline, IsPartOf, IsTimely, used_counts}
 use Rattle.dispatch_core.specs.States.{AgreesWith, AgreesWithoutPlan, FollowsPlans, StateView}

@@ -17,8 +17,8 @@ use Rattle.round_words.specs.Views.{last_of, part, with_stint}
 use Rattle.round_words.proofs.ChangesLemmas.{core_still, started_still}
 use Rattle.round_words.proofs.HearingLemmas.{SamePart}
 use Rattle.run_promises.proofs.ChoiceLemmas.{last_more}
-use Rattle.dispatch_core.specs.declared.account.CoreAccount.{CoreAccount}
-use Rattle.dispatch_core.specs.Accounts.{IsAccountOf, IsWithin, idle_ticks, length_of, shared_ticks, slot_ticks}
+use Rattle.run_counts.specs.declared.account.CoreAccount.{CoreAccount}
+use Rattle.run_counts.specs.Accounts.{IsAccountOf, IsWithin, idle_ticks, length_of, shared_ticks, slot_ticks}
 use Rattle.dispatch_core.specs.Inside.Adding.{Adds}
 use Rattle.dispatch_core.specs.Parts.{AreDispatched, HasSeen, used_counts}
 use Rattle.dispatch_core.specs.States.{AgreesWithoutPlan, FollowsPlans, StateView}

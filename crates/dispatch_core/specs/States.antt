@@ -11,8 +11,8 @@ use Rattle.round_words.specs.declared.view.View.{View}
 use Rattle.round_words.specs.Hearing.{KnowsClocks}
 use Rattle.round_words.specs.Shown.{HoldsCore}
 use Rattle.round_words.specs.Views.{part}
-use Rattle.dispatch_core.specs.declared.account.CoreAccount.{CoreAccount}
-use Rattle.dispatch_core.specs.Accounts.{IsAccountOf, IsWithin}
+use Rattle.run_counts.specs.declared.account.CoreAccount.{CoreAccount}
+use Rattle.run_counts.specs.Accounts.{IsAccountOf, IsWithin}
 use Rattle.dispatch_core.specs.Parts.{AreDispatched, HasSeen, IsOfOutline, IsTimely, used_counts}
 
 -- what is kept of core `core` in a run of so many rounds; the clock is in ticks

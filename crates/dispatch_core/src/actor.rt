@@ -6,8 +6,8 @@ ghost use Rattle.round_words.specs.Views.{part};
 ghost use Rattle.dispatch_core.specs.Parts.{IsNewPart, IsOfOutline};
 ghost use Rattle.dispatch_core.specs.States.{AgreesWith};
 
-use crate::account::CoreAccount;
 use crate::state::CoreState;
+use run_counts::CoreAccount;
 use slice_table::CoreSlices;
 use std::alloc::Global;
 use std::marker::Model;

@@ -8,9 +8,9 @@ ghost use Rattle.dispatch_core.specs.Inside.Logs.{IsLog, IsNewLog};
 ghost use Rattle.dispatch_core.specs.Parts.{IsNewPart, IsOfOutline};
 ghost use Rattle.dispatch_core.specs.States.{AgreesWith, AgreesWithoutPlan};
 
-use crate::account::CoreAccount;
 use crate::log::CoreLog;
 use round_words::HeardClocks;
+use run_counts::CoreAccount;
 use std::alloc::Global;
 use std::marker::Model;
 use tab_core::{CoreNo, NoMemory, Stint};

@@ -9,7 +9,8 @@ ghost use Rattle.live_plan.specs.Actors.{IsLiveActorOf, LiveAgrees};
 
 use crate::book::LiveBook;
 use crate::taken::Taken;
-use dispatch_core::{CoreAccount, CoreState};
+use dispatch_core::CoreState;
+use run_counts::CoreAccount;
 use slice_table::{RowOwners, SliceTable};
 use std::alloc::Global;
 use std::marker::Model;

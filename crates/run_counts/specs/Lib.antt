@@ -1,3 +1,4 @@
+pub mod Accounts
 pub mod Inside
 pub mod Reports
 pub mod RoundPlans

@@ -13,10 +13,10 @@ use Rattle.round_words.proofs.ListLemmas.{length_push}
 use Rattle.round_words.specs.Shown.{ViewInvariant}
 use Rattle.round_words.specs.declared.view.View.{View}
 use Rattle.round_words.specs.Views.{part}
-use Rattle.dispatch_core.specs.Accounts.{IsAccountOf}
+use Rattle.run_counts.specs.Accounts.{IsAccountOf}
 use Rattle.dispatch_core.specs.Parts.{IsOfOutline}
 use Rattle.dispatch_core.specs.States.{AgreesWith, StateView}
-use Rattle.dispatch_core.specs.declared.account.CoreAccount.{CoreAccount}
+use Rattle.run_counts.specs.declared.account.CoreAccount.{CoreAccount}
 use Rattle.run_state.proofs.FinishedLemmas.{counts_used}
 use Rattle.run_state.proofs.RunViewLemmas.{is_core}
 use Rattle.run_state.specs.Readings.{core_state, state_of}

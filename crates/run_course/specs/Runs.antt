@@ -10,10 +10,10 @@ use Rattle.table_form.specs.Running.Complete.{IsComplete}
 use Rattle.table_form.specs.Promises.Run.{KeepsPromises}
 use Rattle.table_form.specs.Running.State.{CoreState, State}
 use Rattle.run_limit.specs.StintBounds.{IsStintBound}
-use Rattle.dispatch_core.specs.Accounts.{IsAccountOf}
+use Rattle.run_counts.specs.Accounts.{IsAccountOf}
 use Rattle.dispatch_core.specs.Parts.{IsOfOutline}
 use Rattle.dispatch_core.specs.States.{StateView}
-use Rattle.dispatch_core.specs.declared.account.CoreAccount.{CoreAccount}
+use Rattle.run_counts.specs.declared.account.CoreAccount.{CoreAccount}
 use Rattle.round_words.specs.declared.view.View.{View}
 use Rattle.run_state.specs.Readings.{state_of}
 use Rattle.run_state.specs.RunViews.{HoldsAllParts}

@@ -21,8 +21,8 @@ use Rattle.round_words.specs.Shown.{ViewInvariant}
 use Rattle.round_words.specs.Views.{IsStarted, just_started, part}
 use Rattle.crew_turns.specs.declared.player.Player.{Player}
 use Rattle.crew_turns.specs.Troops.{AreHeld}
-use Rattle.dispatch_core.specs.Accounts.{IsAccountOf}
-use Rattle.dispatch_core.specs.declared.account.CoreAccount.{CoreAccount}
+use Rattle.run_counts.specs.Accounts.{IsAccountOf}
+use Rattle.run_counts.specs.declared.account.CoreAccount.{CoreAccount}
 use Rattle.run_state.proofs.FinishedLemmas.{counts_used}
 use Rattle.run_state.proofs.Lists.{in_map, of_map}
 use Rattle.run_state.proofs.RunViewLemmas.{is_core}

@@ -1,6 +1,6 @@
 //! The rules of a run whose plans were made late, as plain tests of what it shows. Each plan is looked up in the course
 //! that planning anew gives.
-use dispatch_core::CoreAccount;
+use run_counts::CoreAccount;
 use tab_core::ROUND;
 use table_form::{Course, Plan};
 

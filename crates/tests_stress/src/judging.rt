@@ -1,7 +1,7 @@
 //! The rules of running, as plain tests of what a run shows.
 use crate::pictures::{Look, NOBODY, Picture, Setting, number_of};
 use crate::running::Shown;
-use dispatch_core::CoreAccount;
+use run_counts::CoreAccount;
 use tab_core::{Periodic, ROUND, Stint};
 use tests_samples::bit;
 

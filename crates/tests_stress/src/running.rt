@@ -3,8 +3,8 @@ ghost use Rattle.std.specs.Prelude.{◌<◌};
 ghost use Rattle.table_form.specs.Running.Courses.{FitsRounds};
 
 use core_workers::{Crew, Gate, drive, run_all};
-use dispatch_core::CoreAccount;
 use round_words::RoundBoard;
+use run_counts::CoreAccount;
 use std::alloc::Global;
 use std::test::Fail;
 use std::thread::Threads;

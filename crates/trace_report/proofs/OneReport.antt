@@ -1,7 +1,7 @@
 -- A report is determined.
 use Rattle.std.proofs.Common.{◌≡◌, ℕ, ◌<◌, List, length, ap, sym, ◌∙◌, arith}
 use Rattle.std.proofs.lemmas.List.{get_or_default, same_lists}
-use Rattle.dispatch_core.specs.declared.account.CoreAccount.{CoreAccount}
+use Rattle.run_counts.specs.declared.account.CoreAccount.{CoreAccount}
 use Rattle.table_form.specs.Running.Courses.{CourseView}
 use Rattle.run_counts.proofs.OneReport.{one_report}
 use Rattle.trace_report.specs.ReportViews.{ReportView, no_vcpu_ticks, vcpu_at}

@@ -4,7 +4,7 @@ use Rattle.std.specs.Prelude.{slice_index, sum_by}
 use Rattle.std.proofs.Math.Seq.{take-length}
 use Rattle.std.proofs.lemmas.List.{length-replicate, map-append}
 use Rattle.std.proofs.lemmas.List.Sums.{sum_by-append}
-use Rattle.dispatch_core.specs.declared.account.CoreAccount.{CoreAccount}
+use Rattle.run_counts.specs.declared.account.CoreAccount.{CoreAccount}
 use Rattle.table_form.specs.Running.Courses.{CourseView}
 use Rattle.trace_report.specs.ReportViews.{ReportView, no_core_ticks}
 use Rattle.trace_report.specs.RunReports.{IsAccountAdded, IsFilled, IsReportOf, IsReportSoFar, IsVcpuTold, core_ticks}

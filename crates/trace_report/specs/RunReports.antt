@@ -5,7 +5,7 @@ use Rattle.tab_core.specs.declared.TheConstants.{MAX_VCPUS}
 use Rattle.table_form.specs.Running.Courses.{CourseView, plan_after}
 use Rattle.run_counts.specs.Reports.{IsReported}
 use Rattle.run_counts.specs.RoundPlans.{round_plans_of}
-use Rattle.dispatch_core.specs.declared.account.CoreAccount.{CoreAccount}
+use Rattle.run_counts.specs.declared.account.CoreAccount.{CoreAccount}
 use Rattle.trace_report.specs.ReportViews.{ReportView, no_core_ticks, no_vcpu_ticks, vcpu_at}
 use Rattle.trace_report.specs.declared.ticks.VcpuTicks.{VcpuTicks}
 use Rattle.trace_report.specs.declared.ticks.CoreTicks.{CoreTicks}

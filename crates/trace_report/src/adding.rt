@@ -1,11 +1,11 @@
 ghost use Rattle.std.specs.Prelude.{◌≡◌, ◌*◌, ◌<◌, ◌≤◌, ℕ, length, slice_index};
 ghost use Rattle.tab_core.specs.declared.TheConstants.{MAX_CORES, MAX_ROUNDS, MAX_VCPUS, ROUND};
-ghost use Rattle.dispatch_core.specs.Accounts.{IsWithin};
+ghost use Rattle.run_counts.specs.Accounts.{IsWithin};
 ghost use Rattle.trace_report.specs.ReportViews.{vcpu_at};
 ghost use Rattle.trace_report.specs.RunReports.{core_ticks, sum_below, with_account};
 
 use crate::ticks::{CoreTicks, VcpuTicks};
-use dispatch_core::CoreAccount;
+use run_counts::CoreAccount;
 use tab_core::MAX_VCPUS;
 
 // Adds to each vCPU's numbers what the account has of it.

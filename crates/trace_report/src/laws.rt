@@ -1,5 +1,5 @@
 ghost use Rattle.std.specs.Prelude.{◌≡◌, ◌<◌, ◌∷◌, ◌++◌, ℕ, List, [], length};
-ghost use Rattle.dispatch_core.specs.declared.account.CoreAccount.{CoreAccount};
+ghost use Rattle.run_counts.specs.declared.account.CoreAccount.{CoreAccount};
 ghost use Rattle.table_form.specs.Running.Courses.{CourseView};
 ghost use Rattle.trace_report.specs.ReportViews.{ReportView};
 ghost use Rattle.trace_report.specs.RunReports.{IsAccountAdded, IsFilled, IsReportOf, IsReportSoFar};

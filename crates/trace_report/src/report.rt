@@ -1,13 +1,12 @@
 ghost use Rattle.std.specs.Prelude.{◌≡◌, ◌*◌, ◌<◌, ◌≤◌, ℕ, IfOk, Some, length, slice_get};
 ghost use Rattle.tab_core.specs.declared.TheConstants.{MAX_CORES, MAX_ROUNDS, ROUND};
-ghost use Rattle.dispatch_core.specs.Accounts.{IsWithin};
+ghost use Rattle.run_counts.specs.Accounts.{IsWithin};
 ghost use Rattle.trace_report.specs.RunReports.{HasRoom, IsAccountAdded, IsEmpty, IsFilled};
 
 use crate::adding::{add_vcpus, core_ticks};
 use crate::filling::{clear_cores, take_waits};
 use crate::ticks::{CoreTicks, VcpuTicks};
-use dispatch_core::CoreAccount;
-use run_counts::{RoundPlan, Stretch, count_waits, round_plans};
+use run_counts::{CoreAccount, RoundPlan, Stretch, count_waits, round_plans};
 use std::alloc::Global;
 use std::marker::Model;
 use tab_core::{CoreNo, MAX_VCPUS, NoMemory};

@@ -3,8 +3,8 @@ use Rattle.std.specs.Prelude.{◌≡◌, ℕ, ◌+◌, ◌<◌, ◌&&◌, not, B
 use Rattle.tab_core.specs.declared.TheConstants.{MAX_VCPUS}
 use Rattle.tab_core.specs.declared.stint.Stint.{Stint}
 use Rattle.table_form.specs.Tables.Serves.{is_cell_of}
-use Rattle.dispatch_core.specs.declared.account.CoreAccount.{CoreAccount}
-use Rattle.dispatch_core.specs.Accounts.{idle_ticks, length_of}
+use Rattle.run_counts.specs.declared.account.CoreAccount.{CoreAccount}
+use Rattle.run_counts.specs.Accounts.{idle_ticks, length_of}
 
 -- the new account has the stint's ticks more than the old one, which `shared` says where to count
 pub record Adds (old new : CoreAccount) (s : Stint) (shared : Bool) : Type 0 where

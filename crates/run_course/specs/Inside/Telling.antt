@@ -1,9 +1,9 @@
 -- What a crew's actors tell of their run.
 use Rattle.std.specs.Prelude.{◌≡◌, ℕ, zero, suc, ◌*◌, ◌≤◌, List, [], ◌∷◌, ◌++◌, length, Option, None, Some, slice_get}
 use Rattle.tab_core.specs.declared.TheConstants.{MAX_ROUNDS, ROUND}
-use Rattle.dispatch_core.specs.Accounts.{IsWithin}
+use Rattle.run_counts.specs.Accounts.{IsWithin}
 use Rattle.dispatch_core.specs.States.{StateView}
-use Rattle.dispatch_core.specs.declared.account.CoreAccount.{CoreAccount}
+use Rattle.run_counts.specs.declared.account.CoreAccount.{CoreAccount}
 use Rattle.core_workers.specs.Views.{CrewView, actor_of}
 
 abbrev pub used_in : Option StateView → List ℕ

@@ -2,8 +2,8 @@
 use Rattle.std.specs.Prelude.{◌≡◌, ℕ, ◌*◌, ◌≤◌, List, [], Option, None, Some, length, map, slice_get}
 use Rattle.tab_core.specs.declared.TheConstants.{MAX_ROUNDS, ROUND}
 use Rattle.table_form.specs.Running.Courses.{CourseView}
-use Rattle.dispatch_core.specs.Accounts.{IsWithin}
-use Rattle.dispatch_core.specs.declared.account.CoreAccount.{CoreAccount}
+use Rattle.run_counts.specs.Accounts.{IsWithin}
+use Rattle.run_counts.specs.declared.account.CoreAccount.{CoreAccount}
 use Rattle.live_plan.specs.Actors.{LiveActorView}
 
 abbrev pub live_used_in : Option LiveActorView → List ℕ

@@ -1,7 +1,7 @@
 use Rattle.std.proofs.Common.{◌≡◌, ◌<◌, ◌+◌, ◌++◌, ◌∷◌, [], ℕ, List, length, sym, ap, subst, ◌∙◌, rules, arith}
 use Rattle.round_words.proofs.ListLemmas.{length_push}
 use Rattle.table_form.specs.Running.Courses.{CourseView}
-use Rattle.dispatch_core.specs.declared.account.CoreAccount.{CoreAccount}
+use Rattle.run_counts.specs.declared.account.CoreAccount.{CoreAccount}
 use Rattle.trace_report.specs.RunReports.{IsAccountAdded, IsReportSoFar}
 use Rattle.run_course.specs.Inside.Telling.{accounts_below, first_used}
 use Rattle.run_course.proofs.RunLemmas.{accounts_more}

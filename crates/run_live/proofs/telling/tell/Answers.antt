@@ -3,7 +3,7 @@ use Rattle.std.specs.Prelude.{take}
 use Rattle.std.proofs.lemmas.List.{take_all}
 use Rattle.std.proofs.lemmas.Option.{slice_get_read}
 use Rattle.round_words.proofs.ListLemmas.{length_push}
-use Rattle.dispatch_core.specs.declared.account.CoreAccount.{CoreAccount}
+use Rattle.run_counts.specs.declared.account.CoreAccount.{CoreAccount}
 use Rattle.trace_report.specs.RunReports.{IsAccountAdded, IsReportSoFar}
 use Rattle.run_live.specs.Inside.Telling.{accounts_of, live_first_used}
 use Rattle.run_live.proofs.LiveRunsLemmas.{account_more, accounts_size}

@@ -6,7 +6,7 @@ use Rattle.tab_core.specs.declared.stint.Stint.{Stint}
 use Rattle.table_form.specs.Tables.Serves.{is_cell_of}
 use Rattle.table_form.specs.Running.Choice.{is_shared}
 use Rattle.table_form.specs.Running.Courses.{CourseView}
-use Rattle.dispatch_core.specs.declared.account.CoreAccount.{CoreAccount}
+use Rattle.run_counts.specs.declared.account.CoreAccount.{CoreAccount}
 
 -- how many ticks a stint has
 abbrev pub length_of : Stint → ℕ
