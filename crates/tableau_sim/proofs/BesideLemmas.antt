@@ -21,14 +21,14 @@ use Rattle.tableau_sim.specs.declared.commands.run.Ready.TheVariants as readied
 use Rattle.tableau_sim.specs.declared.reply.Stop.{Stop}
 use Rattle.tableau_sim.specs.declared.reply.Text.{Text}
 use Rattle.tableau_sim.specs.Inside.Reply.{HasItsHost, MakesOnSeat}
-use Rattle.tableau_sim.specs.Inside.Running.{IsReadyOf}
+use Rattle.tableau_sim.specs.Inside.Running.{IsReadyOf, RunsSections}
 use Rattle.tableau_sim.specs.Inside.Stops.{live_stop, plan_stop}
 use Rattle.tableau_sim.specs.Outcomes.CallOutcome.{Writes}
-use Rattle.tableau_sim.specs.Replay.{HasScript}
+use Rattle.tableau_sim.specs.Scripts.{HasScript}
 use Rattle.tableau_sim.specs.Run.{Runs, RunsWhole}
 use Rattle.tableau_sim.specs.Seats.{LeavesRun}
 use Rattle.tableau_sim.specs.Sections.{host_section}
-use Rattle.tableau_sim.proofs.RunLemmas.{stops_on_seat}
+use Rattle.tableau_sim.proofs.RunLemmas.{run_of_script, stops_on_seat}
 use Rattle.tableau_sim.proofs.StopsLemmas.{plan_keeps, plan_stopped}
 
 module _ (rounds : ℕ) (host : Host) (events : List Event) (view : View) (ran : LiveRanView) (is : IsLiveRunOf rounds host events view ran) where
@@ -63,26 +63,26 @@ module _ (rounds : ℕ) (host : Host) (events : List Event) (view : View) (ran :
       }
 
   -- the report of a whole run is what `run` with `live` writes
-  pub ran_live : (sections : List (List ℕ)) → HasScript rounds sections host events → Runs rounds Live view sections
+  pub ran_live : (sections : List (List ℕ)) → HasScript rounds sections host events → RunsSections rounds Live view sections
       (Writes (report_text host ran.changes (length ran.book.course.ticks) rounds ran.report))
   ran_live sections script =
-      subst (λ (changes : List (ℕ × PlanOutcome)). Runs rounds Live view sections
+      subst (λ (changes : List (ℕ × PlanOutcome)). RunsSections rounds Live view sections
       (Writes (report_text host changes (length ran.book.course.ticks) rounds ran.report))) (sym is.changes)
-      (Runs.Ran host events ran.book ran.report [] script is.book whole_live
-      (λ bound long. (let asked = long.asked in absurd cc)) is.report (λ asked. absurd cc))
+      (run_of_script rounds Live view sections host events _ script (Runs.Ran ran.book ran.report [] is.book whole_live
+      (λ bound long. (let asked = long.asked in absurd cc)) is.report (λ asked. absurd cc)))
 
 -- without a report it didn't begin, or it stopped
 pub left_live : (rounds : ℕ) (old new : View) (sections : List (List ℕ)) (host : Host) (events : List Event)
     (fault : LiveFault) → HasScript rounds sections host events → old ≡ unstarted → LeavesView rounds host events fault new
-    → MakesOnSeat (Runs rounds Live new sections) (LeavesRun rounds Live old new sections) old new
+    → MakesOnSeat (RunsSections rounds Live new sections) (LeavesRun rounds Live old new sections) old new
     (Err (live_stop fault host))
 left_live rounds old new sections host events (NotBegun fault) script first left =
     let same : new ≡ old = left.0 ∙ sym first in
-    stops_on_seat (Runs rounds Live new sections) (LeavesRun rounds Live old new sections) (host_section sections) old new
+    stops_on_seat (RunsSections rounds Live new sections) (LeavesRun rounds Live old new sections) (host_section sections) old new
     (plan_stop fault host) same (inl same)
-    (plan_stopped (Runs rounds Live new sections) (host_section sections) host fault script.is_host
-    (λ vcpu e. Runs.NoPeriod host events vcpu script (subst (CannotBePlanned host) e left.1))
-    (λ vcpu rest over e. Runs.NoRoom host events vcpu rest over script (subst (CannotBePlanned host) e left.1)))
+    (plan_stopped (RunsSections rounds Live new sections) (host_section sections) [] host fault script.is_host
+    (λ vcpu e. subst (CannotBePlanned host) e left.1) (λ vcpu rest over e. subst (CannotBePlanned host) e left.1)
+    (λ refusal lacks. run_of_script rounds Live new sections host events _ script (Runs.Unplanned refusal lacks)))
 left_live rounds old new sections host events Stopped script first left =
     inr (record { host = host; events = events; script = script; so_far = left })
 
@@ -95,7 +95,7 @@ live_keeps section host Stopped is = tt {0}
 -- what is made of a run that was planned beside its cores is what `run` makes of the sections
 pub beside_reply : (rounds : ℕ) (mode : RunMode) (old new : View) (sections : List (List ℕ)) (host : Host)
     (events : List Event) (reply : Result Text Stop) → IsReadyOf rounds mode sections (readied.Beside host events)
-    → MakesOnSeat (Runs rounds Live new sections) (LeavesRun rounds Live old new sections) old new reply
-    → MakesOnSeat (Runs rounds mode new sections) (LeavesRun rounds mode old new sections) old new reply
+    → MakesOnSeat (RunsSections rounds Live new sections) (LeavesRun rounds Live old new sections) old new reply
+    → MakesOnSeat (RunsSections rounds mode new sections) (LeavesRun rounds mode old new sections) old new reply
 beside_reply rounds mode old new sections host events reply is makes =
-    subst (λ m. MakesOnSeat (Runs rounds m new sections) (LeavesRun rounds m old new sections) old new reply) (sym is.0) makes
+    subst (λ m. MakesOnSeat (RunsSections rounds m new sections) (LeavesRun rounds m old new sections) old new reply) (sym is.0) makes

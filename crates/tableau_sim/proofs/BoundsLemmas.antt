@@ -19,7 +19,12 @@ use Rattle.tableau_sim.specs.Clauses.{IsFaultless}
 use Rattle.tableau_sim.specs.Commands.{Replies}
 use Rattle.tableau_sim.specs.Outcomes.CallOutcome.{Refuses}
 use Rattle.tableau_sim.proofs.OutcomesLemmas.{no_refusal}
-use Rattle.tableau_sim.specs.Plan.{Plans}
+use Rattle.host_doc.specs.Document.{IsHostText}
+use Rattle.tableau_sim.specs.declared.status.Status.TheVariants as status
+use Rattle.tableau_sim.specs.Hosts.{OfHost}
+use Rattle.tableau_sim.specs.Hosts.OfHost.{BadHost, Hosted}
+use Rattle.tableau_sim.specs.Outcomes.{CallOutcome}
+use Rattle.tableau_sim.specs.Plan.{HasNoPlan, Plans, PlansFrom}
 use Rattle.tableau_sim.specs.Sections.{host_section}
 use Rattle.tableau_sim.proofs.HostsLemmas.{no_host_fault}
 
@@ -39,24 +44,32 @@ no_vcpu_lacks_room host v rest over has first =
     (placement_within_bound [] first.tasks host.cores first.placed host.some_core
     first.is_start.placement within) first.stuck.left_is
 
--- nothing refuses a host within the bound, neither as a document nor because a period or room is
--- missing
-bounded_is_planned : (sections : List (List ℕ)) → IsBounded (host_section sections)
-    → (refusal : Status) (names : List (List ℕ)) → Plans sections (Refuses refusal names) → ⊥
-bounded_is_planned sections bounded refusal names (Plans.BadHost fault is) =
-    no_host_fault _ fault bounded.host is bounded.is_host
-bounded_is_planned sections bounded refusal names (Plans.NoPeriod host vcpu is lacks) =
-    let has = subst HasBoundedTasks (one_host _ bounded.host host bounded.is_host is) bounded.bounded in
-    none_without_period host has.tasks vcpu has.tasks_are lacks
-bounded_is_planned sections bounded refusal names (Plans.NoRoom host vcpu rest over is lacks) =
-    let has = subst HasBoundedTasks (one_host _ bounded.host host bounded.is_host is) bounded.bounded in
-    no_vcpu_lacks_room host vcpu rest over has lacks
+-- a host within the bound has a plan
+bounded_has_plan : (host : Host) (refusal : Status) → HasBoundedTasks host → HasNoPlan [] host refusal → ⊥
+bounded_has_plan host (status.NoPeriod vcpu) has lacks = none_without_period host has.tasks vcpu has.tasks_are lacks
+bounded_has_plan host (status.NoRoom vcpu rest over) has lacks = no_vcpu_lacks_room host vcpu rest over has lacks
+bounded_has_plan host other has lacks = absurd lacks
 
--- `plan whole` doesn't refuse an input whose host's demands fit
+-- nothing refuses a section that is a host which no refusal of P has as its host
+pub stated_is_fine : (P : Host → List (List ℕ) → CallOutcome → Type 0) (sections : List (List ℕ)) (host : Host)
+    → IsHostText (host_section sections) host → ((refusal : Status) (names : List (List ℕ))
+    → P host sections (Refuses refusal names) → ⊥)
+    → (refusal : Status) (names : List (List ℕ)) → OfHost P sections (Refuses refusal names) → ⊥
+stated_is_fine P sections host is fine refusal names (BadHost fault bad) = no_host_fault _ fault host bad is
+stated_is_fine P sections host is fine refusal names (Hosted other outcome also made) = fine refusal names
+    (subst (λ h. P h sections (Refuses refusal names)) (one_host _ other host also is) made)
+
+-- nothing refuses what is made of a host that has a plan
+pub planned_is_fine : (host : Host) (refusal : Status) (names : List (List ℕ))
+    → ((r : Status) → HasNoPlan [] host r → ⊥) → PlansFrom [] host (Refuses refusal names) → ⊥
+planned_is_fine host refusal names has (PlansFrom.Unplanned same lacks) = has refusal lacks
+
+-- `plan` doesn't refuse an input whose host is within the bound
 pub bounded_is_faultless : (input : List ℕ) → length (sections_of input) ≡ 1
     → IsBounded (host_section (sections_of input)) → IsFaultless Replies called.Plan input
-bounded_is_faultless input one bounded refusal names h =
-    no_refusal 1 Plans input one (bounded_is_planned (sections_of input) bounded) refusal names h
+bounded_is_faultless input one bounded refusal names h = no_refusal 1 (OfHost Plans) input one
+    (stated_is_fine Plans (sections_of input) bounded.host bounded.is_host
+    (λ r ns. planned_is_fine bounded.host r ns (λ s. bounded_has_plan bounded.host s bounded.bounded))) refusal names h
 
 -- a host whose demands fit isn't beyond its room
 none_beyond_room : (host : Host) (demand room : ℕ) → HasFittingTasks host → IsBeyondRoom host demand room → ⊥
@@ -65,19 +78,16 @@ none_beyond_room host demand room has beyond =
     omega (arith, beyond.demand_is, beyond.room_is, beyond.beyond, has.fits, same)
 
 -- `plan whole` doesn't refuse a host whose demands fit
-fitting_is_planned : (sections : List (List ℕ)) → IsFitting (host_section sections)
-    → (refusal : Status) (names : List (List ℕ)) → PlansWhole sections (Refuses refusal names) → ⊥
-fitting_is_planned sections fitting refusal names (PlansWhole.BadHost fault is) =
-    no_host_fault _ fault fitting.host is fitting.is_host
-fitting_is_planned sections fitting refusal names (PlansWhole.NoPeriod host vcpu is lacks) =
-    let has = subst HasFittingTasks (one_host _ fitting.host host fitting.is_host is) fitting.fitting in
+fitting_is_planned : (host : Host) (sections : List (List ℕ)) (refusal : Status) (names : List (List ℕ))
+    → HasFittingTasks host → PlansWhole host sections (Refuses refusal names) → ⊥
+fitting_is_planned host sections refusal names has (PlansWhole.NoPeriod vcpu lacks) =
     none_without_period host has.tasks vcpu has.tasks_are lacks
-fitting_is_planned sections fitting refusal names (PlansWhole.NoFit host demand room is beyond) =
-    let has = subst HasFittingTasks (one_host _ fitting.host host fitting.is_host is) fitting.fitting in
+fitting_is_planned host sections refusal names has (PlansWhole.NoFit demand room beyond) =
     none_beyond_room host demand room has beyond
 
 -- `plan whole` doesn't refuse an input whose host's demands fit
 pub fitting_is_faultless : (input : List ℕ) → length (sections_of input) ≡ 1
     → IsFitting (host_section (sections_of input)) → IsFaultless Replies called.PlanWhole input
-fitting_is_faultless input one fitting refusal names h =
-    no_refusal 1 PlansWhole input one (fitting_is_planned (sections_of input) fitting) refusal names h
+fitting_is_faultless input one fitting refusal names h = no_refusal 1 (OfHost PlansWhole) input one
+    (stated_is_fine PlansWhole (sections_of input) fitting.host fitting.is_host
+    (λ r ns. fitting_is_planned fitting.host (sections_of input) r ns fitting.fitting)) refusal names h

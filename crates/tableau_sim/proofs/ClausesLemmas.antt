@@ -9,9 +9,9 @@ use Rattle.tab_words.proofs.CommandLemmas.{no_fault, same_command, one_place}
 use Rattle.tableau_sim.specs.declared.input.TheConstants.{INPUT_LIMIT}
 use Rattle.tableau_sim.specs.declared.status.Status.{Status}
 use Rattle.tableau_sim.specs.declared.status.Status.TheVariants as status
-use Rattle.tableau_sim.specs.Clauses.{EndsUnread, FrontIsOut, HasCause, IsFaultless, IsOut, IsToRead, IsToReadIf, Lacked, LineIsOut, NoFaults, ReadTooMuch, Unread, WroteFor}
+use Rattle.tableau_sim.specs.Clauses.{CameOut, EndsUnread, IsFaultless, IsToRead, IsToReadIf, LineIsOut, NoFaults, PrefixIsOut, Unread}
 use Rattle.tableau_sim.specs.Columns.{reads, takes_memory}
-use Rattle.tableau_sim.specs.Frame.{Answers, Due, HasReadIf, IsDue, MayHaveReadIf, outcome_of}
+use Rattle.tableau_sim.specs.Frame.{Answers, Due, HasDue, HasReadIf, IsDue, IsOut, MayHaveReadIf, outcome_of}
 use Rattle.tableau_sim.specs.Frame.Due.{LacksMemory, NoCommand, Replied, SourceFailed, TooMuch}
 use Rattle.tableau_sim.specs.Lines.{line_of_status}
 use Rattle.tableau_sim.specs.Outcomes.{CallOutcome, IsOfInput, status_of, text_of_outcome}
@@ -28,16 +28,13 @@ abbrev pub WritesUnread : (Command → List ℕ → CallOutcome → Type 0) → 
 WritesUnread R = (command : Command) (input : List ℕ) (outcome : CallOutcome) → reads command ≡ false
     → R command input outcome → status_of outcome ≡ status.Ok
 
--- what is due came whole, with its status
+-- what was due came whole, with its status
 pub record IsTold (R : Command → List ℕ → CallOutcome → Type 0) (Leaves : Due → List ℕ → Type 0)
     (words : List (List ℕ)) (source source' : SourceView) (sink sink' : SinkView)
     (told : Status) : Type 0 where
-  pub input : List ℕ
-  pub consumed : Consumes source.rest source'.rest input
   pub due : Due
-  pub is_due : IsDue R Leaves words source source' input due
+  pub came : CameOut R Leaves words source source' sink sink' due
   pub told_is : status_of (outcome_of due) ≡ told
-  pub out : IsOut sink sink' (text_of_outcome (outcome_of due))
 
 -- where the status is no write fault, what was due is out whole: each clause on a status starts here
 told_due : (R : Command → List ℕ → CallOutcome → Type 0) (Leaves : Due → List ℕ → Type 0)
@@ -46,12 +43,9 @@ told_due : (R : Command → List ℕ → CallOutcome → Type 0) (Leaves : Due �
     → IsTold R Leaves words source source' sink sink' told
 told_due R Leaves words source source' sink sink' told a works = elim a.written.whole [
   | inl came ↦ record {
-    input = a.input;
-    consumed = a.consumed;
     due = a.due;
-    is_due = a.is_due;
+    came = record { had = a.has_due; out = came.1 };
     told_is = sym came.0;
-    out = record { written = came.1; settled = came.2 };
   }
   | inr failed ↦ absurd (works failed.0)
 ]
@@ -73,77 +67,88 @@ of_input : (R : Command → List ℕ → CallOutcome → Type 0) (refuses : Refu
 of_input R refuses command input outcome h refusal names is =
     refuses command input refusal names (subst (R command input) is h)
 
+-- a text of the command was due for what it has read, and is out
+abbrev pub WroteFor : (Command → List ℕ → CallOutcome → Type 0) → (Due → List ℕ → Type 0) → List (List ℕ) → Command
+    → SourceView → SourceView → SinkView → SinkView → Type 0
+WroteFor R Leaves words command source source' sink sink' =
+    (text : List ℕ) × CameOut R Leaves words source source' sink sink' (Replied command (Writes text))
+
 -- with `Ok` only a reply can have been due, and it is a text of the command
 wrote_of : (R : Command → List ℕ → CallOutcome → Type 0) (Leaves : Due → List ℕ → Type 0) (refuses : RefusesInput R)
     (words : List (List ℕ)) (source source' : SourceView) (sink sink' : SinkView)
     (command : Command) (input : List ℕ) (due : Due) → IsCommand words command
     → Consumes source.rest source'.rest input → IsDue R Leaves words source source' input due
     → status_of (outcome_of due) ≡ status.Ok → IsOut sink sink' (text_of_outcome (outcome_of due))
-    → WroteFor R command source source' sink sink'
+    → WroteFor R Leaves words command source source' sink sink'
 wrote_of R Leaves refuses words source source' sink sink' command input (NoCommand place) are consumed h is out = absurd cc
 wrote_of R Leaves refuses words source source' sink sink' command input (SourceFailed other) are consumed h is out = absurd cc
 wrote_of R Leaves refuses words source source' sink sink' command input (TooMuch other) are consumed h is out = absurd cc
 wrote_of R Leaves refuses words source source' sink sink' command input (LacksMemory other) are consumed h is out = absurd cc
 wrote_of R Leaves refuses words source source' sink sink' command input (Replied other outcome) are consumed h is out =
     let same : other ≡ command = same_command words other command h.0 are in
-    let replies = subst (λ c. R c input outcome) same h.2 in
-    record {
-      input = input;
-      read = record { consumed = consumed; read = subst (λ c. HasReadIf (reads c) source' input) same h.1 };
-      text = text_of_outcome outcome;
-      replies = subst (R command input)
-          (outcome_written outcome is (of_input R refuses other input outcome h.2)) replies;
-      out = out;
-    }
+    let replies = subst (λ c. R c input outcome) same h.2 in (
+      text_of_outcome outcome,
+      record {
+        had = record {
+          input = input;
+          consumed = consumed;
+          is_due = (
+            are,
+            subst (λ c. HasReadIf (reads c) source' input) same h.1,
+            subst (R command input) (outcome_written outcome is (of_input R refuses other input outcome h.2)) replies,
+          );
+        };
+        out = out;
+      },
+    )
 
 -- the clause `wrote`
 pub wrote_told : (R : Command → List ℕ → CallOutcome → Type 0) (Leaves : Due → List ℕ → Type 0) (refuses : RefusesInput R)
     (words : List (List ℕ)) (source source' : SourceView) (sink sink' : SinkView) (told : Status)
     → Answers R Leaves words source source' sink sink' told → (command : Command) → IsCommand words command
-    → told ≡ status.Ok → WroteFor R command source source' sink sink'
+    → told ≡ status.Ok → WroteFor R Leaves words command source source' sink sink'
 wrote_told R Leaves refuses words source source' sink sink' told a command are is =
     let t = told_due R Leaves words source source' sink sink' told a (λ failed. let e = sym is ∙ failed in absurd cc) in
-    wrote_of R Leaves refuses words source source' sink sink' command t.input t.due are t.consumed t.is_due (t.told_is ∙ is)
-    t.out
+    wrote_of R Leaves refuses words source source' sink sink' command t.came.had.input t.due are t.came.had.consumed
+    t.came.had.is_due (t.told_is ∙ is) t.came.out
 
 -- ---- a refusal of the input
 
+-- the words are a command that refuses what it has read so, and the line of that is out
+abbrev pub HasCause : (Command → List ℕ → CallOutcome → Type 0) → (Due → List ℕ → Type 0) → List (List ℕ)
+    → SourceView → SourceView → SinkView → SinkView → Status → Type 0
+HasCause R Leaves words source source' sink sink' refusal = (command : Command) × (names : List (List ℕ))
+    × CameOut R Leaves words source source' sink sink' (Replied command (Refuses refusal names))
+
 -- with a refusal of the input only a refusal of a command can have been due
 cause_of : (R : Command → List ℕ → CallOutcome → Type 0) (Leaves : Due → List ℕ → Type 0)
-    (words : List (List ℕ)) (source source' : SourceView) (sink sink' : SinkView) (told : Status)
-    (input : List ℕ) (due : Due) → Consumes source.rest source'.rest input
-    → IsDue R Leaves words source source' input due → status_of (outcome_of due) ≡ told
-    → IsOut sink sink' (text_of_outcome (outcome_of due)) → IsOfInput told
-    → HasCause R words source source' sink sink' told
-cause_of R Leaves words source source' sink sink' told input (NoCommand place) consumed h is out of =
+    (words : List (List ℕ)) (source source' : SourceView) (sink sink' : SinkView) (told : Status) (due : Due)
+    → CameOut R Leaves words source source' sink sink' due → status_of (outcome_of due) ≡ told → IsOfInput told
+    → HasCause R Leaves words source source' sink sink' told
+cause_of R Leaves words source source' sink sink' told (NoCommand place) came is of =
     absurd (subst IsOfInput (sym is) of)
-cause_of R Leaves words source source' sink sink' told input (SourceFailed command) consumed h is out of =
+cause_of R Leaves words source source' sink sink' told (SourceFailed command) came is of =
     absurd (subst IsOfInput (sym is) of)
-cause_of R Leaves words source source' sink sink' told input (TooMuch command) consumed h is out of =
+cause_of R Leaves words source source' sink sink' told (TooMuch command) came is of =
     absurd (subst IsOfInput (sym is) of)
-cause_of R Leaves words source source' sink sink' told input (LacksMemory command) consumed h is out of =
+cause_of R Leaves words source source' sink sink' told (LacksMemory command) came is of =
     absurd (subst IsOfInput (sym is) of)
-cause_of R Leaves words source source' sink sink' told input (Replied command (Writes text)) consumed h is out of =
+cause_of R Leaves words source source' sink sink' told (Replied command (Writes text)) came is of =
     absurd (subst IsOfInput (sym is) of)
-cause_of R Leaves words source source' sink sink' told input (Replied command (Refuses refusal names)) consumed h
-    is out of = record {
-      command = command;
-      words_are = h.0;
-      input = input;
-      read = record { consumed = consumed; read = h.1 };
-      names = names;
-      replies = subst (λ r. R command input (Refuses r names)) is h.2;
-      out = subst (λ r. IsOut sink sink' (line_of_status names r)) is out;
-    }
+cause_of R Leaves words source source' sink sink' told (Replied command (Refuses refusal names)) came is of = (
+  command,
+  names,
+  subst (λ r. CameOut R Leaves words source source' sink sink' (Replied command (Refuses r names))) is came,
+)
 
 -- the clause `refused`
 pub cause_told : (R : Command → List ℕ → CallOutcome → Type 0) (Leaves : Due → List ℕ → Type 0)
     (words : List (List ℕ)) (source source' : SourceView) (sink sink' : SinkView) (told : Status)
     → Answers R Leaves words source source' sink sink' told → IsOfInput told
-    → HasCause R words source source' sink sink' told
+    → HasCause R Leaves words source source' sink sink' told
 cause_told R Leaves words source source' sink sink' told a of =
     let t = told_due R Leaves words source source' sink sink' told a (λ failed. subst IsOfInput failed of) in
-    cause_of R Leaves words source source' sink sink' told t.input t.due t.consumed t.is_due t.told_is t.out of
+    cause_of R Leaves words source source' sink sink' told t.due t.came t.told_is of
 
 -- ---- a faultless input
 
@@ -195,8 +200,8 @@ pub complete_told : (R : Command → List ℕ → CallOutcome → Type 0) (Leave
     → NoFaults source source' sink sink' → (told ≡ status.Ok) ⊎ (told ≡ status.NoMemory)
 complete_told R Leaves words source source' sink sink' told a command given are is fine works = elim a.written.whole [
   | inl came ↦
-      elim (complete_of R Leaves words source source' command a.input given a.due are is fine works.source_works
-      a.consumed a.is_due) [
+      elim (complete_of R Leaves words source source' command a.has_due.input given a.due are is fine works.source_works
+      a.has_due.consumed a.has_due.is_due) [
         | inl ok ↦ inl (came.0 ∙ ok)
         | inr lacks ↦ inr (came.0 ∙ lacks)
       ]
@@ -247,10 +252,10 @@ pub silent_told : (R : Command → List ℕ → CallOutcome → Type 0) (Leaves 
     → IsCommand words command → reads command ≡ false
     → EndsUnread (takes_memory command) told × Unread source source'
 silent_told R Leaves silent words source source' sink sink' told a command are still =
-    let s = silent_of R Leaves silent words source source' command a.input a.due are still a.is_due in (
+    let s = silent_of R Leaves silent words source source' command a.has_due.input a.due are still a.has_due.is_due in (
       ends_unread (takes_memory command) told (status_of (outcome_of a.due))
           (elim a.written.whole [ inl came ↦ inl came.0 | inr failed ↦ inr failed.0 ]) s.0,
-      subst (Consumes source.rest source'.rest) s.1 a.consumed,
+      subst (Consumes source.rest source'.rest) s.1 a.has_due.consumed,
     )
 
 -- ---- the words
@@ -276,8 +281,8 @@ pub usage_told : (R : Command → List ℕ → CallOutcome → Type 0) (Leaves :
     → told ≡ status.Usage place → IsFaultAt words place × Unread source source'
 usage_told R Leaves refuses words source source' sink sink' told a place is =
     let t = told_due R Leaves words source source' sink sink' told a (λ failed. let e = sym is ∙ failed in absurd cc) in
-    let u = usage_of R Leaves refuses words source source' t.input t.due place t.is_due (t.told_is ∙ is) in
-    (u.0, subst (Consumes source.rest source'.rest) u.1 t.consumed)
+    let u = usage_of R Leaves refuses words source source' t.came.had.input t.due place t.came.had.is_due (t.told_is ∙ is) in
+    (u.0, subst (Consumes source.rest source'.rest) u.1 t.came.had.consumed)
 
 -- for words that are no command nothing but `Usage` can be due
 usage_only : (R : Command → List ℕ → CallOutcome → Type 0) (Leaves : Due → List ℕ → Type 0)
@@ -301,7 +306,7 @@ pub usage_due : (R : Command → List ℕ → CallOutcome → Type 0) (Leaves : 
     (told : Status) → Answers R Leaves words source source' sink sink' told → (place : ℕ) → IsFaultAt words place
     → (told ≡ status.Usage place) ⊎ (told ≡ status.WriteFault)
 usage_due R Leaves words source source' sink sink' told a place fault = elim a.written.whole [
-  | inl came ↦ inl (came.0 ∙ usage_only R Leaves words source source' a.input a.due place fault a.is_due)
+  | inl came ↦ inl (came.0 ∙ usage_only R Leaves words source source' a.has_due.input a.due place fault a.has_due.is_due)
   | inr failed ↦ inr failed.0
 ]
 
@@ -327,57 +332,51 @@ pub read_fault_told : (R : Command → List ℕ → CallOutcome → Type 0) (Lea
     → Rose source.faults source'.faults
 read_fault_told R Leaves refuses words source source' sink sink' told a is =
     let t = told_due R Leaves words source source' sink sink' told a (λ failed. let e = sym is ∙ failed in absurd cc) in
-    read_fault_of R Leaves refuses words source source' t.input t.due t.is_due (t.told_is ∙ is)
+    read_fault_of R Leaves refuses words source source' t.came.had.input t.due t.came.had.is_due (t.told_is ∙ is)
 
 -- `TooLong` can only have been due after a byte too much
 too_long_of : (R : Command → List ℕ → CallOutcome → Type 0) (Leaves : Due → List ℕ → Type 0) (refuses : RefusesInput R)
-    (words : List (List ℕ)) (source source' : SourceView) (input : List ℕ) (due : Due)
-    → IsDue R Leaves words source source' input due → status_of (outcome_of due) ≡ status.TooLong
-    → length input ≡ INPUT_LIMIT + 1
-too_long_of R Leaves refuses words source source' input (NoCommand place) h is = absurd cc
-too_long_of R Leaves refuses words source source' input (SourceFailed command) h is = absurd cc
-too_long_of R Leaves refuses words source source' input (TooMuch command) h is = h.2
-too_long_of R Leaves refuses words source source' input (LacksMemory command) h is = absurd cc
-too_long_of R Leaves refuses words source source' input (Replied command (Writes text)) h is = absurd cc
-too_long_of R Leaves refuses words source source' input (Replied command (Refuses refusal names)) h is =
-    absurd (subst IsOfInput is (refuses command input refusal names h.2))
+    (words : List (List ℕ)) (source source' : SourceView) (due : Due)
+    → HasDue R Leaves words source source' due → status_of (outcome_of due) ≡ status.TooLong
+    → (command : Command) × HasDue R Leaves words source source' (TooMuch command)
+too_long_of R Leaves refuses words source source' (NoCommand place) had is = absurd cc
+too_long_of R Leaves refuses words source source' (SourceFailed command) had is = absurd cc
+too_long_of R Leaves refuses words source source' (TooMuch command) had is = (command, had)
+too_long_of R Leaves refuses words source source' (LacksMemory command) had is = absurd cc
+too_long_of R Leaves refuses words source source' (Replied command (Writes text)) had is = absurd cc
+too_long_of R Leaves refuses words source source' (Replied command (Refuses refusal names)) had is =
+    absurd (subst IsOfInput is (refuses command had.input refusal names had.is_due.2))
 
 -- the clause `too_long`
 pub too_long_told : (R : Command → List ℕ → CallOutcome → Type 0) (Leaves : Due → List ℕ → Type 0) (refuses : RefusesInput R)
     (words : List (List ℕ)) (source source' : SourceView) (sink sink' : SinkView)
     (told : Status) → Answers R Leaves words source source' sink sink' told → told ≡ status.TooLong
-    → ReadTooMuch source source'
+    → (command : Command) × HasDue R Leaves words source source' (TooMuch command)
 too_long_told R Leaves refuses words source source' sink sink' told a is =
     let t = told_due R Leaves words source source' sink sink' told a (λ failed. let e = sym is ∙ failed in absurd cc) in
-    (t.input, t.consumed, too_long_of R Leaves refuses words source source' t.input t.due t.is_due (t.told_is ∙ is))
+    too_long_of R Leaves refuses words source source' t.due t.came.had (t.told_is ∙ is)
 
 -- with `NoMemory` only running out of memory can have been due
 lacked_of : (R : Command → List ℕ → CallOutcome → Type 0) (Leaves : Due → List ℕ → Type 0) (refuses : RefusesInput R)
-    (words : List (List ℕ)) (source source' : SourceView) (input : List ℕ) (due : Due)
-    → Consumes source.rest source'.rest input → IsDue R Leaves words source source' input due
-    → status_of (outcome_of due) ≡ status.NoMemory → Lacked Leaves words source source'
-lacked_of R Leaves refuses words source source' input (NoCommand place) consumed h is = absurd cc
-lacked_of R Leaves refuses words source source' input (SourceFailed command) consumed h is = absurd cc
-lacked_of R Leaves refuses words source source' input (TooMuch command) consumed h is = absurd cc
-lacked_of R Leaves refuses words source source' input (LacksMemory command) consumed h is = record {
-  command = command;
-  words_are = h.0;
-  input = input;
-  consumed = consumed;
-  left = h.3;
-}
-lacked_of R Leaves refuses words source source' input (Replied command (Writes text)) consumed h is = absurd cc
-lacked_of R Leaves refuses words source source' input (Replied command (Refuses refusal names)) consumed h is =
-    absurd (subst IsOfInput is (refuses command input refusal names h.2))
+    (words : List (List ℕ)) (source source' : SourceView) (due : Due)
+    → HasDue R Leaves words source source' due → status_of (outcome_of due) ≡ status.NoMemory
+    → (command : Command) × HasDue R Leaves words source source' (LacksMemory command)
+lacked_of R Leaves refuses words source source' (NoCommand place) had is = absurd cc
+lacked_of R Leaves refuses words source source' (SourceFailed command) had is = absurd cc
+lacked_of R Leaves refuses words source source' (TooMuch command) had is = absurd cc
+lacked_of R Leaves refuses words source source' (LacksMemory command) had is = (command, had)
+lacked_of R Leaves refuses words source source' (Replied command (Writes text)) had is = absurd cc
+lacked_of R Leaves refuses words source source' (Replied command (Refuses refusal names)) had is =
+    absurd (subst IsOfInput is (refuses command had.input refusal names had.is_due.2))
 
 -- the clause `no_memory`
 pub lacked_told : (R : Command → List ℕ → CallOutcome → Type 0) (Leaves : Due → List ℕ → Type 0) (refuses : RefusesInput R)
     (words : List (List ℕ)) (source source' : SourceView) (sink sink' : SinkView)
     (told : Status) → Answers R Leaves words source source' sink sink' told → told ≡ status.NoMemory
-    → Lacked Leaves words source source'
+    → (command : Command) × HasDue R Leaves words source source' (LacksMemory command)
 lacked_told R Leaves refuses words source source' sink sink' told a is =
     let t = told_due R Leaves words source source' sink sink' told a (λ failed. let e = sym is ∙ failed in absurd cc) in
-    lacked_of R Leaves refuses words source source' t.input t.due t.consumed t.is_due (t.told_is ∙ is)
+    lacked_of R Leaves refuses words source source' t.due t.came.had (t.told_is ∙ is)
 
 -- `WriteFault` is never due, so it tells of the sink
 no_write_fault : (R : Command → List ℕ → CallOutcome → Type 0) (Leaves : Due → List ℕ → Type 0) (refuses : RefusesInput R)
@@ -395,15 +394,13 @@ no_write_fault R Leaves refuses words source source' input (Replied command (Ref
 pub front_told : (R : Command → List ℕ → CallOutcome → Type 0) (Leaves : Due → List ℕ → Type 0) (refuses : RefusesInput R)
     (words : List (List ℕ)) (source source' : SourceView) (sink sink' : SinkView)
     (told : Status) → Answers R Leaves words source source' sink sink' told → told ≡ status.WriteFault
-    → FrontIsOut R Leaves words source source' sink sink'
+    → PrefixIsOut R Leaves words source source' sink sink'
 front_told R Leaves refuses words source source' sink sink' told a is = elim a.written.whole [
-  | inl came ↦ absurd (no_write_fault R Leaves refuses words source source' a.input a.due a.is_due (sym came.0 ∙ is))
+  | inl came ↦ absurd (no_write_fault R Leaves refuses words source source' a.has_due.input a.due a.has_due.is_due (sym came.0 ∙ is))
   | inr failed ↦ record {
-    failed = failed.2;
-    input = a.input;
-    consumed = a.consumed;
     due = a.due;
-    is_due = a.is_due;
+    had = a.has_due;
+    failed = failed.2;
     begun = failed.1;
   }
 ]
@@ -424,4 +421,4 @@ pub line_told : (R : Command → List ℕ → CallOutcome → Type 0) (Leaves : 
 line_told R Leaves words source source' sink sink' told a not_ok not_failed =
     let t = told_due R Leaves words source source' sink sink' told a not_failed in
     let line = line_from (outcome_of t.due) (λ ok. not_ok (sym t.told_is ∙ ok)) in
-    (line.0, subst (IsOut sink sink') (line.1 ∙ ap (line_of_status line.0) t.told_is) t.out)
+    (line.0, subst (IsOut sink sink') (line.1 ∙ ap (line_of_status line.0) t.told_is) t.came.out)

@@ -16,10 +16,10 @@ use Rattle.host_doc.specs.Document.{IsHostText}
 use Rattle.host_doc.proofs.HostNames.{stated_names}
 use Rattle.period_choice.specs.Tasks.{AreTasksOf, IsFirstWithoutPeriod}
 use Rattle.period_choice.proofs.Unique.{tasks_unique}
-use Rattle.plan_make.specs.Planned.{IsPlanned, IsStayingPlan}
+use Rattle.plan_make.specs.Planned.{IsStayingPlan}
 use Rattle.plan_make.specs.declared.fault.PlanFault.{PlanFault}
 use Rattle.plan_make.specs.declared.fault.PlanFault.TheVariants as planning
-use Rattle.plan_make.proofs.OnePlan.{planned_unique, staying_unique}
+use Rattle.plan_make.proofs.OnePlan.{staying_unique}
 use Rattle.plan_make.proofs.OneRefusal.{HasPlanFault, HasStayingFault, one_plan_fault, one_staying_fault, one_without_period, planned_or_fault, staying_or_fault}
 use Rattle.period_choice.proofs.TasksLemmas.{none_without_period}
 use Rattle.plan_text.specs.FirstBad.{IsFirstBadFor}
@@ -36,7 +36,6 @@ use Rattle.table_check.proofs.OneFault.{no_fault, one_fault as one_check_fault}
 use Rattle.script_doc.specs.Script.{IsScript}
 use Rattle.script_doc.specs.ScriptFaults.{IsFirstFault}
 use Rattle.script_doc.specs.Statements.{statements_of}
-use Rattle.script_doc.specs.Steps.{AreSteps, IsFirstBadLine}
 use Rattle.script_doc.specs.declared.event.Event.{Event}
 use Rattle.script_doc.specs.declared.step.Step.{Step}
 use Rattle.script_doc.proofs.EventsLemmas.{distinct_names}
@@ -59,12 +58,15 @@ use Rattle.tableau_sim.specs.Commands.{Replies}
 use Rattle.tableau_sim.specs.Outcomes.{CallOutcome}
 use Rattle.tableau_sim.specs.Outcomes.CallOutcome.{Refuses, Writes}
 use Rattle.tableau_sim.specs.Gen.{Gens}
-use Rattle.tableau_sim.specs.Plan.{Plans}
+use Rattle.tableau_sim.specs.Hosts.{OfHost}
+use Rattle.tableau_sim.specs.Plan.{HasNoPlan, Plans, PlansFrom}
 use Rattle.tableau_sim.specs.PlanStay.{PlansStaying}
 use Rattle.tableau_sim.specs.PlanWhole.{PlansWhole}
-use Rattle.tableau_sim.specs.Replay.{HasReplayInput, ReplayInput, Replays, script_section, steps_section}
+use Rattle.tableau_sim.specs.Replay.{Replays, ReplaysSteps}
+use Rattle.tableau_sim.specs.Scripts.{OfScript, script_section}
+use Rattle.tableau_sim.specs.Scripts.OfScript.{BadScript, Scripted}
 use Rattle.tableau_sim.specs.Sections.{host_section}
-use Rattle.tableau_sim.proofs.Stages.{Ends, HostStage, IsOne, Staged, one_end, one_host_stage, one_of_sections, one_staged, same_pair}
+use Rattle.tableau_sim.proofs.Stages.{Ends, IsOne, Staged, one_end, one_of_host, one_of_sections, one_staged, same_pair}
 use Rattle.tableau_sim.proofs.WholeOutcomes.{whole_only}
 
 -- ---- plan
@@ -75,50 +77,35 @@ plan_refusal h (planning.NoPeriod vcpu) = Refuses (status.NoPeriod vcpu) (names_
 plan_refusal h (planning.NoRoom vcpu rest over) = Refuses (status.NoRoom vcpu rest over) (names_of h.vcpus)
 plan_refusal h planning.NoMemory = Refuses status.NoMemory []
 
--- what `plan` makes of a host
-abbrev OfHost : Host → CallOutcome → Type 0
-OfHost h = Ends (HasPlanFault h) (plan_refusal h) (IsPlanned h) (λ p. Writes (plan_text (names_of h.vcpus) p))
+-- why there is no plan, in the form in which planning says it
+no_plan_fault : (homes : List (Option ℕ)) (h : Host) (refusal : Status) → HasNoPlan homes h refusal
+    → (f : PlanFault) × HasStayingFault homes h f × (Refuses refusal (names_of h.vcpus) ≡ plan_refusal h f)
+no_plan_fault homes h (status.NoPeriod vcpu) lacks = (planning.NoPeriod vcpu, lacks, refl)
+no_plan_fault homes h (status.NoRoom vcpu rest over) lacks = (planning.NoRoom vcpu rest over, lacks, refl)
+no_plan_fault homes h other lacks = absurd lacks
 
--- an outcome of `plan`, by its stages
-plan_stages : (s : List (List ℕ)) (o : CallOutcome) → Plans s o → HostStage s OfHost o
-plan_stages s o (Plans.Planned h p is has) = inr (h, is, inr (p, has.planned, refl))
-plan_stages s o (Plans.BadHost f bad) = inl (f, bad, refl)
-plan_stages s o (Plans.NoPeriod h vcpu is lacks) = inr (h, is, inl (planning.NoPeriod vcpu, lacks, refl))
-plan_stages s o (Plans.NoRoom h vcpu rest over is lacks) =
-    inr (h, is, inl (planning.NoRoom vcpu rest over, lacks, refl))
+-- an outcome from old homes, by its stages
+plan_stages : (homes : List (Option ℕ)) (h : Host) (o : CallOutcome) → PlansFrom homes h o
+    → Ends (HasStayingFault homes h) (plan_refusal h) (IsStayingPlan homes h)
+    (λ p. Writes (plan_text (names_of h.vcpus) p)) o
+plan_stages homes h o (PlansFrom.Planned p has) = inr (p, has.planned, refl)
+plan_stages homes h o (PlansFrom.Unplanned refusal lacks) = inl (no_plan_fault homes h refusal lacks)
+
+-- a host makes one outcome from old homes
+one_from : (homes : List (Option ℕ)) (h : Host) (a b : CallOutcome) → PlansFrom homes h a → PlansFrom homes h b
+    → a ≡ b
+one_from homes h a b of_a of_b =
+    one_end _ (plan_refusal h) _ (λ p. Writes (plan_text (names_of h.vcpus) p)) a b (record {
+      cause = one_staying_fault homes h;
+      thing = staying_unique homes h;
+      apart = λ f p bad planned. staying_or_fault homes h p f planned bad;
+    }) (plan_stages homes h a of_a) (plan_stages homes h b of_b)
 
 -- `plan` makes one outcome of its sections
-plan_only : (s : List (List ℕ)) (a b : CallOutcome) → Plans s a → Plans s b → a ≡ b
-plan_only s a b of_a of_b = one_host_stage s OfHost a b (λ h is.
-    one_end _ (plan_refusal h) _ (λ p. Writes (plan_text (names_of h.vcpus) p)) a b (record {
-      cause = one_plan_fault h;
-      thing = planned_unique h;
-      apart = λ f p bad planned. planned_or_fault h p f planned bad;
-    })) (plan_stages s a of_a) (plan_stages s b of_b)
+plan_only : (s : List (List ℕ)) (a b : CallOutcome) → OfHost Plans s a → OfHost Plans s b → a ≡ b
+plan_only s a b = one_of_host Plans s a b (λ h is. one_from [] h a b)
 
 -- ---- plan stay
-
--- what `plan stay` makes of old homes
-abbrev OfOldHomes : Host → List (Option ℕ) → CallOutcome → Type 0
-OfOldHomes h homes = Ends (HasStayingFault homes h) (plan_refusal h) (IsStayingPlan homes h)
-    (λ p. Writes (plan_text (names_of h.vcpus) p))
-
--- what `replay` makes of a host
-abbrev OfStayingHost : List (List ℕ) → Host → CallOutcome → Type 0
-OfStayingHost s h = Staged (IsFirstBadFor IsSomeOldText 1 (worded (plan_section s)))
-    (λ line. Refuses (status.BadPlanLine line) [])
-    (AreOldHomes (names_of h.vcpus) (worded (plan_section s))) (OfOldHomes h)
-
--- an outcome of `plan stay`, by its stages
-stay_stages : (s : List (List ℕ)) (o : CallOutcome) → PlansStaying s o → HostStage s (OfStayingHost s) o
-stay_stages s o (PlansStaying.Planned h homes p old has) =
-    inr (h, old.is_host, inr (homes, old.old, inr (p, has.planned, refl)))
-stay_stages s o (PlansStaying.BadHost f bad) = inl (f, bad, refl)
-stay_stages s o (PlansStaying.BadLine h line is bad) = inr (h, is, inl (line, bad, refl))
-stay_stages s o (PlansStaying.NoPeriod h homes vcpu old lacks) =
-    inr (h, old.is_host, inr (homes, old.old, inl (planning.NoPeriod vcpu, lacks, refl)))
-stay_stages s o (PlansStaying.NoRoom h homes vcpu rest over old lacks) =
-    inr (h, old.is_host, inr (homes, old.old, inl (planning.NoRoom vcpu rest over, lacks, refl)))
 
 -- a text gives one list of old homes, or has one first bad line
 one_old : (s : List (List ℕ)) (h : Host)
@@ -130,15 +117,20 @@ one_old s h = record {
   apart = λ line homes bad old. no_text IsSomeOldText 1 _ line bad (old.vcpus, old.text);
 }
 
+-- `plan stay` makes one outcome of a host
+stay_one : (s : List (List ℕ)) (h : Host) (a b : CallOutcome) → PlansStaying h s a → PlansStaying h s b → a ≡ b
+stay_one s h a b (PlansStaying.Stays homes _ old p) (PlansStaying.Stays others _ also q) =
+    one_from homes h a b p (subst (λ o. PlansFrom o h b) ((one_old s h).thing others homes also old) q)
+stay_one s h a b (PlansStaying.Stays homes _ old p) (PlansStaying.BadLine line bad) =
+    absurd ((one_old s h).apart line homes bad old)
+stay_one s h a b (PlansStaying.BadLine line bad) (PlansStaying.Stays homes _ old p) =
+    absurd ((one_old s h).apart line homes bad old)
+stay_one s h a b (PlansStaying.BadLine line bad) (PlansStaying.BadLine other also) =
+    ap (λ l. Refuses (status.BadPlanLine l) []) ((one_old s h).cause line other bad also)
+
 -- `plan stay` makes one outcome of its sections
-stay_only : (s : List (List ℕ)) (a b : CallOutcome) → PlansStaying s a → PlansStaying s b → a ≡ b
-stay_only s a b of_a of_b = one_host_stage s (OfStayingHost s) a b (λ h is.
-    one_staged _ _ _ (OfOldHomes h) a b (one_old s h) (λ homes old.
-    one_end _ (plan_refusal h) _ (λ p. Writes (plan_text (names_of h.vcpus) p)) a b (record {
-      cause = one_staying_fault homes h;
-      thing = staying_unique homes h;
-      apart = λ f p bad planned. staying_or_fault homes h p f planned bad;
-    }))) (stay_stages s a of_a) (stay_stages s b of_b)
+stay_only : (s : List (List ℕ)) (a b : CallOutcome) → OfHost PlansStaying s a → OfHost PlansStaying s b → a ≡ b
+stay_only s a b = one_of_host PlansStaying s a b (λ h is. stay_one s h a b)
 
 -- ---- check
 
@@ -154,21 +146,19 @@ OfTasks s h t =
     (λ line. Refuses (status.BadPlanLine line) [])
     (IsPlanText (names_of h.vcpus) h.cores t (plan_section s)) (OfTables h t)
 
--- what `replay` makes of a host
+-- what `check` makes of a host
 abbrev OfCheckedHost : List (List ℕ) → Host → CallOutcome → Type 0
 OfCheckedHost s h = Staged (IsFirstWithoutPeriod h)
     (λ vcpu. Refuses (status.NoPeriod vcpu) (names_of h.vcpus)) (AreTasksOf h) (OfTasks s h)
 
 -- an outcome of `check`, by its stages
-check_stages : (s : List (List ℕ)) (o : CallOutcome) → Checks s o → HostStage s (OfCheckedHost s) o
-check_stages s o (Checks.Passes h t r has good) =
-    inr (h, has.tasked.is_host, inr (t, has.tasked.are_tasks, inr (r, has.text, inr (tt, good, refl))))
-check_stages s o (Checks.BadHost f bad) = inl (f, bad, refl)
-check_stages s o (Checks.NoPeriod h vcpu is lacks) = inr (h, is, inl (vcpu, lacks, refl))
-check_stages s o (Checks.BadLine h t line has bad) =
-    inr (h, has.is_host, inr (t, has.are_tasks, inl (line, bad, refl)))
-check_stages s o (Checks.BadTables h t r f has faulty) =
-    inr (h, has.tasked.is_host, inr (t, has.tasked.are_tasks, inr (r, has.text, inl (f, faulty, refl))))
+check_stages : (s : List (List ℕ)) (h : Host) (o : CallOutcome) → Checks h s o → OfCheckedHost s h o
+check_stages s h o (Checks.Passes t r has good) =
+    inr (t, has.are_tasks, inr (r, has.text, inr (tt, good, refl)))
+check_stages s h o (Checks.NoPeriod vcpu lacks) = inl (vcpu, lacks, refl)
+check_stages s h o (Checks.BadLine t line are bad) = inr (t, are, inl (line, bad, refl))
+check_stages s h o (Checks.BadTables t r f has faulty) =
+    inr (t, has.are_tasks, inr (r, has.text, inl (f, faulty, refl)))
 
 -- a text has one meaning for tasks, or one first bad line
 one_text : (s : List (List ℕ)) (h : Host) (t : List (Option Periodic)) → IsHostText (host_section s) h
@@ -187,8 +177,8 @@ one_text s h t is are =
     }
 
 -- `check` makes one outcome of its sections
-pub check_only : (s : List (List ℕ)) (a b : CallOutcome) → Checks s a → Checks s b → a ≡ b
-check_only s a b of_a of_b = one_host_stage s (OfCheckedHost s) a b (λ h is.
+pub check_only : (s : List (List ℕ)) (a b : CallOutcome) → OfHost Checks s a → OfHost Checks s b → a ≡ b
+check_only s a b = one_of_host Checks s a b (λ h is of_a of_b.
     one_staged _ _ _ (OfTasks s h) a b (record {
       cause = one_without_period h;
       thing = tasks_unique h;
@@ -199,86 +189,48 @@ check_only s a b of_a of_b = one_host_stage s (OfCheckedHost s) a b (λ h is.
       cause = one_check_fault t raw.rows;
       thing = λ x y good also. refl;
       apart = λ f x bad good. no_fault t raw.rows f good bad;
-    })))) (check_stages s a of_a) (check_stages s b of_b)
+    }))) (check_stages s h a of_a) (check_stages s h b of_b))
 
 -- ---- replay
 
--- the host, the script, and the steps with their lines, as the parts of a run
-abbrev parts_of : Host → List Event → List Step × List ℕ → ReplayInput
-parts_of h events listed = record { host = h; events = events; steps = listed.0; lines = listed.1 }
-
 -- the step on the line is refused in a run of the course
-abbrev IsRefusedOn : ℕ → ReplayInput → CourseView → ℕ × Answer → Type 0
-IsRefusedOn rounds parts course at = (place : ℕ) × (slice_get parts.lines place ≡ Some at.0)
-    × IsRefused course rounds parts.steps place at.1
+abbrev IsRefusedOn : ℕ → List Step → List ℕ → CourseView → ℕ × Answer → Type 0
+IsRefusedOn rounds steps lines course at = (place : ℕ) × (slice_get lines place ≡ Some at.0)
+    × IsRefused course rounds steps place at.1
 
 -- the steps lead to this state and make this
-abbrev IsRunOf : ℕ → ReplayInput → CourseView → State × List Made → Type 0
-IsRunOf rounds parts course run = IsTrace course rounds (opening course.cores) parts.steps run.0 run.1
+abbrev IsRunOf : ℕ → List Step → CourseView → State × List Made → Type 0
+IsRunOf rounds steps course run = IsTrace course rounds (opening course.cores) steps run.0 run.1
 
 -- the text of that
-abbrev run_text : ReplayInput → CourseView → State × List Made → CallOutcome
-run_text parts course run = Writes (replay_text (names_of parts.host.vcpus) course run.1 run.0.posted)
+abbrev run_text : Host → CourseView → State × List Made → CallOutcome
+run_text h course run = Writes (replay_text (names_of h.vcpus) course run.1 run.0.posted)
 
 -- what `replay` makes of a course
-abbrev OfCourse : ℕ → ReplayInput → CourseView → CallOutcome → Type 0
-OfCourse rounds parts course = Ends (IsRefusedOn rounds parts course)
-    (λ at. Refuses (status.StepRefused at.0 at.1) []) (IsRunOf rounds parts course) (run_text parts course)
+abbrev OfCourse : ℕ → Host → List Step → List ℕ → CourseView → CallOutcome → Type 0
+OfCourse rounds h steps lines course = Ends (IsRefusedOn rounds steps lines course)
+    (λ at. Refuses (status.StepRefused at.0 at.1) []) (IsRunOf rounds steps course) (run_text h course)
 
--- what `replay` makes of its parts
-abbrev OfParts : ℕ → ReplayInput → CallOutcome → Type 0
-OfParts rounds parts = Staged (HasPlanFault parts.host) (plan_refusal parts.host)
-    (IsFormedCourseOf parts.host parts.events) (OfCourse rounds parts)
+-- what `replay` makes of steps
+abbrev OfSteps : ℕ → Host → List Event → List Step → List ℕ → CallOutcome → Type 0
+OfSteps rounds h events steps lines = Staged (HasPlanFault h) (plan_refusal h) (IsFormedCourseOf h events)
+    (OfCourse rounds h steps lines)
 
--- what `replay` makes of a script
-abbrev OfScript : ℕ → List (List ℕ) → Host → List Event → CallOutcome → Type 0
-OfScript rounds s h events = Staged (IsFirstBadLine h.cores (statements_of (steps_section s)))
-    (λ line. Refuses (status.BadStep line) [])
-    (λ (listed : List Step × List ℕ). AreSteps h.cores (statements_of (steps_section s)) listed.0 listed.1)
-    (λ listed. OfParts rounds (parts_of h events listed))
-
--- what `replay` makes of a host
-abbrev OfReplayedHost : ℕ → List (List ℕ) → Host → CallOutcome → Type 0
-OfReplayedHost rounds s h = Staged (IsFirstFault (names_of h.vcpus) rounds (statements_of (script_section s)))
-    (λ f. Refuses (status.Script f) [])
-    (IsScript (names_of h.vcpus) rounds (statements_of (script_section s))) (OfScript rounds s h)
-
--- the first three stages are passed where there are parts
-behind_parts : (rounds : ℕ) (s : List (List ℕ)) (parts : ReplayInput) (o : CallOutcome) → HasReplayInput rounds s parts
-    → OfParts rounds parts o → HostStage s (OfReplayedHost rounds s) o
-behind_parts rounds s parts o has rest = inr (
-  parts.host,
-  has.script.is_host,
-  inr (
-    parts.events,
-    has.script.is_script,
-    inr ((parts.steps, parts.lines), has.are_steps, rest),
-  ),
+-- an outcome of steps, by its stages
+steps_stages : (rounds : ℕ) (h : Host) (events : List Event) (steps : List Step) (lines : List ℕ) (o : CallOutcome)
+    → ReplaysSteps rounds h events steps lines o → OfSteps rounds h events steps lines o
+steps_stages rounds h events steps lines o (ReplaysSteps.Replayed course state made run) = inr (
+  course,
+  record { is = run.course_is; form = run.course_kept.form },
+  inr ((state, made), run.trace, refl),
 )
-
--- an outcome of `replay`, by its stages
-replay_stages : (rounds : ℕ) (s : List (List ℕ)) (o : CallOutcome) → Replays rounds s o
-    → HostStage s (OfReplayedHost rounds s) o
-replay_stages rounds s o (Replays.Replayed parts course state made has run) =
-    behind_parts rounds s parts _ has (inr (
-      course,
-      record { is = run.course_is; form = run.course_kept.form },
-      inr ((state, made), run.trace, refl),
-    ))
-replay_stages rounds s o (Replays.BadHost f bad) = inl (f, bad, refl)
-replay_stages rounds s o (Replays.BadScript h f is bad) = inr (h, is, inl (f, bad, refl))
-replay_stages rounds s o (Replays.BadStep h events line has bad) =
-    inr (h, has.is_host, inr (events, has.is_script, inl (line, bad, refl)))
-replay_stages rounds s o (Replays.NoPeriod parts vcpu has lacks) =
-    behind_parts rounds s parts _ has (inl (planning.NoPeriod vcpu, lacks, refl))
-replay_stages rounds s o (Replays.NoRoom parts vcpu rest over has lacks) =
-    behind_parts rounds s parts _ has (inl (planning.NoRoom vcpu rest over, lacks, refl))
-replay_stages rounds s o (Replays.StepRefused parts line answer has off) =
-    behind_parts rounds s parts _ has (inr (
-      off.course,
-      record { is = off.course_is; form = off.course_kept.form },
-      inl ((line, answer), (off.place, off.on_line, off.refused), refl),
-    ))
+steps_stages rounds h events steps lines o (ReplaysSteps.Unplanned refusal lacks) =
+    inl (no_plan_fault [] h refusal lacks)
+steps_stages rounds h events steps lines o (ReplaysSteps.StepRefused place line answer at off) = inr (
+  off.course,
+  record { is = off.course_is; form = off.course_kept.form },
+  inl ((line, answer), (place, at, off.refused), refl),
+)
 
 -- a script is one, or its fault
 one_script_stage : (rounds : ℕ) (s : List (List ℕ)) (h : Host) → IsHostText (host_section s) h
@@ -292,18 +244,6 @@ one_script_stage rounds s h is =
       apart = λ f events. fault_or_script _ rounds _ f events distinct;
     }
 
--- a list of steps is one, or its bad line
-one_list : (s : List (List ℕ)) (h : Host)
-    → IsOne (IsFirstBadLine h.cores (statements_of (steps_section s)))
-    (λ (listed : List Step × List ℕ). AreSteps h.cores (statements_of (steps_section s)) listed.0 listed.1)
-one_list s h = record {
-  cause = one_bad_line h.cores _;
-  thing = λ listed other are also.
-      let same = one_step_list h.cores _ listed.0 other.0 listed.1 other.1 h.few_cores are also in
-      same_pair listed other same.0 same.1;
-  apart = λ line listed. bad_or_steps h.cores _ line listed.0 listed.1;
-}
-
 -- a plan is known before the first event, so there is a course or a fault of planning
 one_course_stage : (h : Host) (events : List Event) → IsOne (HasPlanFault h) (IsFormedCourseOf h events)
 one_course_stage h events = record {
@@ -315,34 +255,64 @@ one_course_stage h events = record {
 }
 
 -- a run of a course is one, or its refusal
-one_run : (rounds : ℕ) (parts : ReplayInput) (course : CourseView)
-    → IsOne (IsRefusedOn rounds parts course) (IsRunOf rounds parts course)
-one_run rounds parts course = record {
+one_run : (rounds : ℕ) (steps : List Step) (lines : List ℕ) (course : CourseView)
+    → IsOne (IsRefusedOn rounds steps lines course) (IsRunOf rounds steps course)
+one_run rounds steps lines course = record {
   cause = λ at other off also.
-      let same = one_refused course rounds parts.steps off.0 also.0 at.1 other.1 off.2 also.2 in
-      let here = subst (λ k. slice_get parts.lines k ≡ Some at.0) same.0 off.1 in
+      let same = one_refused course rounds steps off.0 also.0 at.1 other.1 off.2 also.2 in
+      let here = subst (λ k. slice_get lines k ≡ Some at.0) same.0 off.1 in
       let there = also.1 in
       let line : at.0 ≡ other.0 = cc in
       same_pair at other line same.1;
   thing = λ run other trace also.
-      let same = one_trace course rounds (opening course.cores) parts.steps run.0 other.0 run.1 other.1
+      let same = one_trace course rounds (opening course.cores) steps run.0 other.0 run.1 other.1
       trace also in
       same_pair run other same.0 same.1;
-  apart = λ at run off trace. refused_or_leads course rounds parts.steps off.0 at.1 run.0 off.2
-      (leads_of course rounds (opening course.cores) parts.steps run.0 run.1 trace);
+  apart = λ at run off trace. refused_or_leads course rounds steps off.0 at.1 run.0 off.2
+      (leads_of course rounds (opening course.cores) steps run.0 run.1 trace);
 }
 
+-- steps make one outcome
+one_of_steps : (rounds : ℕ) (h : Host) (events : List Event) (steps : List Step) (lines : List ℕ) (a b : CallOutcome)
+    → ReplaysSteps rounds h events steps lines a → ReplaysSteps rounds h events steps lines b → a ≡ b
+one_of_steps rounds h events steps lines a b of_a of_b =
+    one_staged _ (plan_refusal h) _ (OfCourse rounds h steps lines) a b (one_course_stage h events)
+    (λ course formed. one_end _ _ _ (run_text h course) a b (one_run rounds steps lines course))
+    (steps_stages rounds h events steps lines a of_a) (steps_stages rounds h events steps lines b of_b)
+
+-- a host and a script make one outcome of the steps' section
+one_of_listed : (rounds : ℕ) (h : Host) (events : List Event) (s : List (List ℕ)) (a b : CallOutcome)
+    → Replays rounds h events s a → Replays rounds h events s b → a ≡ b
+one_of_listed rounds h events s a b (Replays.Listed steps lines _ are p) (Replays.Listed others more _ also q) =
+    let same = one_step_list h.cores _ others steps more lines h.few_cores also are in
+    one_of_steps rounds h events steps lines a b p (subst (λ l. ReplaysSteps rounds h events steps l b) same.1
+    (subst (λ l. ReplaysSteps rounds h events l more b) same.0 q))
+one_of_listed rounds h events s a b (Replays.Listed steps lines _ are p) (Replays.BadStep line bad) =
+    absurd (bad_or_steps h.cores _ line steps lines bad are)
+one_of_listed rounds h events s a b (Replays.BadStep line bad) (Replays.Listed steps lines _ are p) =
+    absurd (bad_or_steps h.cores _ line steps lines bad are)
+one_of_listed rounds h events s a b (Replays.BadStep line bad) (Replays.BadStep other also) =
+    ap (λ l. Refuses (status.BadStep l) []) (one_bad_line h.cores _ line other bad also)
+
+-- a host makes one outcome of the section of the script
+one_of_script : (rounds : ℕ) (Q : Host → List Event → List (List ℕ) → CallOutcome → Type 0) (s : List (List ℕ))
+    (h : Host) (a b : CallOutcome) → IsHostText (host_section s) h
+    → ((events : List Event) → Q h events s a → Q h events s b → a ≡ b)
+    → OfScript rounds Q h s a → OfScript rounds Q h s b → a ≡ b
+one_of_script rounds Q s h a b is each (Scripted events _ script p) (Scripted others _ also q) =
+    each events p (subst (λ e. Q h e s b) ((one_script_stage rounds s h is).thing others events also script) q)
+one_of_script rounds Q s h a b is each (Scripted events _ script p) (BadScript f bad) =
+    absurd ((one_script_stage rounds s h is).apart f events bad script)
+one_of_script rounds Q s h a b is each (BadScript f bad) (Scripted events _ script p) =
+    absurd ((one_script_stage rounds s h is).apart f events bad script)
+one_of_script rounds Q s h a b is each (BadScript f bad) (BadScript g also) =
+    ap (λ fault. Refuses (status.Script fault) []) ((one_script_stage rounds s h is).cause f g bad also)
+
 -- `replay` makes one outcome of its sections
-replay_only : (rounds : ℕ) (s : List (List ℕ)) (a b : CallOutcome)
-    → Replays rounds s a → Replays rounds s b → a ≡ b
-replay_only rounds s a b of_a of_b = one_host_stage s (OfReplayedHost rounds s) a b (λ h is.
-    one_staged _ _ _ (OfScript rounds s h) a b (one_script_stage rounds s h is) (λ events script.
-    one_staged _ _ _ (λ listed. OfParts rounds (parts_of h events listed)) a b (one_list s h) (λ listed are.
-    one_staged _ (plan_refusal h) _ (OfCourse rounds (parts_of h events listed)) a b (one_course_stage h events)
-    (λ course formed.
-    one_end _ _ _ (run_text (parts_of h events listed) course) a b
-    (one_run rounds (parts_of h events listed) course)))))
-    (replay_stages rounds s a of_a) (replay_stages rounds s b of_b)
+replay_only : (rounds : ℕ) (s : List (List ℕ)) (a b : CallOutcome) → OfHost (OfScript rounds (Replays rounds)) s a
+    → OfHost (OfScript rounds (Replays rounds)) s b → a ≡ b
+replay_only rounds s a b = one_of_host (OfScript rounds (Replays rounds)) s a b (λ h is.
+    one_of_script rounds (Replays rounds) s h a b is (λ events. one_of_listed rounds h events s a b))
 
 -- ---- the law
 
@@ -357,14 +327,14 @@ pub one_outcome : (command : Command) (input : List ℕ) (one other : CallOutcom
 one_outcome called.Help input one other single = λ p q. p ∙ sym q
 one_outcome called.Version input one other single = λ p q. p ∙ sym q
 one_outcome called.Plan input one other single =
-    one_of_sections 1 Plans input one other (plan_only _ one other)
+    one_of_sections 1 (OfHost Plans) input one other (plan_only _ one other)
 one_outcome called.PlanWhole input one other single = absurd (single refl)
 one_outcome called.PlanStay input one other single =
-    one_of_sections 2 PlansStaying input one other (stay_only _ one other)
+    one_of_sections 2 (OfHost PlansStaying) input one other (stay_only _ one other)
 one_outcome called.Check input one other single =
-    one_of_sections 2 Checks input one other (check_only _ one other)
+    one_of_sections 2 (OfHost Checks) input one other (check_only _ one other)
 one_outcome (called.Replay rounds) input one other single =
-    one_of_sections 3 (Replays rounds) input one other (replay_only rounds _ one other)
+    one_of_sections 3 (OfHost (OfScript rounds (Replays rounds))) input one other (replay_only rounds _ one other)
 one_outcome (called.Gen seed cores vcpus) input one other single = gen_only seed cores vcpus one other
 one_outcome (called.Run rounds mode) input one other single = λ p q. absurd p
 one_outcome (called.Selftest seed) input one other single = λ p q. absurd p
@@ -374,5 +344,5 @@ pub one_refusal : (command : Command) (input : List ℕ) (refusal : Status) (nam
     (other : CallOutcome) → Replies command input (Refuses refusal names) → Replies command input other
     → Refuses refusal names ≡ other
 one_refusal called.PlanWhole input refusal names other p q =
-    one_of_sections 1 PlansWhole input _ other (whole_only _ refusal names other) p q
+    one_of_sections 1 (OfHost PlansWhole) input _ other (whole_only _ refusal names other) p q
 one_refusal command input refusal names other p q = one_outcome command input _ other (λ same. absurd cc) p q

@@ -22,10 +22,10 @@ use Rattle.table_form.specs.Running.Courses.{CourseView}
 use Rattle.plan_promises.proofs.RunPromisesLemmas.{run_promises}
 use Rattle.round_words.specs.declared.view.View.{View}
 use Rattle.run_state.specs.Readings.{state_of}
-use Rattle.tableau_sim.specs.Clauses.{WroteFor}
+use Rattle.tableau_sim.proofs.ClausesLemmas.{WroteFor}
 use Rattle.tableau_sim.specs.Promised.{HasRunAsPromised, HasTestedAsPromised, RanAsPromised, StatesHost}
 use Rattle.tableau_sim.specs.Run.{RunsWhole}
-use Rattle.tableau_sim.specs.Seats.{HasRun, HasTested, OnSeat}
+use Rattle.tableau_sim.specs.Seats.{HasRun, HasTested, LeavesSeat, OnSeat}
 use Rattle.tableau_sim.proofs.SeatsLemmas.{ran_told}
 
 -- an array that states the vCPUs, each by a table of its number
@@ -106,12 +106,13 @@ run_whole rounds source source' view ended has = record {
 }
 
 -- the clause `promised` follows from `wrote`
-pub run_promised : (old new : View) (rounds : ℕ) (mode : RunMode) (source source' : SourceView)
-    (sink sink' : SinkView) → WroteFor (OnSeat old new) (called.Run rounds mode) source source' sink sink'
+pub run_promised : (old new : View) (words : List (List ℕ)) (rounds : ℕ) (mode : RunMode) (source source' : SourceView)
+    (sink sink' : SinkView)
+    → WroteFor (OnSeat old new) (LeavesSeat old new) words (called.Run rounds mode) source source' sink sink'
     → HasRunAsPromised rounds source source' new
-run_promised old new rounds mode source source' sink sink' wrote =
-    run_whole rounds source source' new wrote.read.read.1
-    (ran_told old new rounds mode source source' sink sink' wrote)
+run_promised old new words rounds mode source source' sink sink' wrote =
+    run_whole rounds source source' new wrote.1.had.is_due.1.1
+    (ran_told old new words rounds mode source source' sink sink' wrote)
 
 -- that of `selftest` follows from `tested`
 pub test_promised : (seed : ℕ) (view : View) → HasTested seed view → HasTestedAsPromised seed view

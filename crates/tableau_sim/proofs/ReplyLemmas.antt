@@ -30,6 +30,15 @@ use Rattle.tableau_sim.specs.Frame.{Answers, Due, HasReadIf, IsDue, MayHaveReadI
 use Rattle.tableau_sim.specs.Frame.Due.{LacksMemory, NoCommand, Replied, SourceFailed, TooMuch}
 use Rattle.tableau_sim.specs.Outcomes.{CallOutcome, status_of}
 use Rattle.tableau_sim.specs.Outcomes.CallOutcome.{Refuses}
+use Rattle.tableau_sim.specs.Hosts.{OfHost}
+use Rattle.tableau_sim.specs.Hosts.OfHost.{Hosted}
+use Rattle.tableau_sim.specs.Scripts.{HasScript, OfScript}
+use Rattle.tableau_sim.specs.Scripts.OfScript.{Scripted}
+use Rattle.script_doc.specs.Statements.{statements_of}
+use Rattle.script_doc.specs.Steps.{AreSteps}
+use Rattle.script_doc.specs.declared.event.Event.{Event}
+use Rattle.script_doc.specs.declared.step.Step.{Step}
+use Rattle.tableau_sim.specs.Replay.{Replays, ReplaysSteps, steps_section}
 use Rattle.tableau_sim.specs.Sections.{OfSections, host_section}
 use Rattle.tableau_sim.specs.Sections.OfSections.{BadSections, Sectioned}
 
@@ -39,11 +48,9 @@ answers_of : (R : Command → List ℕ → CallOutcome → Type 0) (Leaves : Due
     → IsReplyTo R Leaves words source source' reply
     → WritesReply sink sink' (outcome_in reply) told → Answers R Leaves words source source' sink sink' told
 answers_of R Leaves words source source' sink sink' told reply is written = record {
-  input = is.input;
-  consumed = is.consumed;
-  later = is.later;
   due = is.due;
-  is_due = is.is_due;
+  has_due = record { input = is.input; consumed = is.consumed; is_due = is.is_due };
+  later = is.later;
   written = subst (λ outcome. WritesReply sink sink' outcome told) (sym is.same) written;
 }
 
@@ -53,25 +60,22 @@ refused_by : (R : Command → List ℕ → CallOutcome → Type 0) (Leaves : Due
     → Consumes old.rest new.rest input → IsDue R Leaves words old new input due
     → outcome_of due ≡ Refuses (status.NoRoom vcpu rest over) (names_of host.vcpus)
     → IsHostText (host_section (sections_of input)) host
-    → RefusesHost R words old new (status.NoRoom vcpu rest over) host
+    → RefusesHost R Leaves words old new (status.NoRoom vcpu rest over) host
 refused_by R Leaves words old new input (NoCommand place) vcpu rest over host consumed h same is = absurd cc
 refused_by R Leaves words old new input (SourceFailed command) vcpu rest over host consumed h same is = absurd cc
 refused_by R Leaves words old new input (TooMuch command) vcpu rest over host consumed h same is = absurd cc
 refused_by R Leaves words old new input (LacksMemory command) vcpu rest over host consumed h same is = absurd cc
 refused_by R Leaves words old new input (Replied command outcome) vcpu rest over host consumed h same is = record {
   command = command;
-  words_are = h.0;
-  input = input;
-  read = record { consumed = consumed; read = h.1 };
+  had = record { input = input; consumed = consumed; is_due = (h.0, h.1, subst (R command input) same h.2) };
   is_host = is;
-  replies = subst (R command input) same h.2;
 }
 
 -- a refusal hands on its host if it is one for room
 refused_hands : (R : Command → List ℕ → CallOutcome → Type 0) (Leaves : Due → List ℕ → Type 0) (words : List (List ℕ))
     (source source' : SourceView) (refusal : Status) (host : Option Host)
     → IsReplyTo R Leaves words source source' (Err (stop.Refused refusal host))
-    → HandsHost R words source source' refusal (handed refusal host)
+    → HandsHost R Leaves words source source' refusal (handed refusal host)
 refused_hands R Leaves words source source' (status.NoRoom vcpu rest over) None is = is.has_host
 refused_hands R Leaves words source source' (status.NoRoom vcpu rest over) (Some host) is =
     refused_by R Leaves words source source' is.input is.due vcpu rest over host is.consumed is.is_due is.same is.has_host
@@ -80,7 +84,7 @@ refused_hands R Leaves words source source' other host is = refl
 -- what comes whole of a reply hands on its host if that is a refusal for room
 reply_hands : (R : Command → List ℕ → CallOutcome → Type 0) (Leaves : Due → List ℕ → Type 0) (words : List (List ℕ))
     (source source' : SourceView) (reply : Result Text Stop) → IsReplyTo R Leaves words source source' reply
-    → HandsHost R words source source' (status_of (outcome_in reply)) (handed (status_of (outcome_in reply)) (host_in reply))
+    → HandsHost R Leaves words source source' (status_of (outcome_in reply)) (handed (status_of (outcome_in reply)) (host_in reply))
 reply_hands R Leaves words source source' (Ok text) is = refl
 reply_hands R Leaves words source source' (Err (stop.Refused refusal host)) is =
     refused_hands R Leaves words source source' refusal host is
@@ -90,11 +94,11 @@ reply_hands R Leaves words source source' (Err stop.NoMemory) is = refl
 told_hands : (R : Command → List ℕ → CallOutcome → Type 0) (Leaves : Due → List ℕ → Type 0) (words : List (List ℕ))
     (source source' : SourceView) (sink sink' : SinkView) (told : Status) (reply : Result Text Stop)
     → IsReplyTo R Leaves words source source' reply → WritesReply sink sink' (outcome_in reply) told
-    → HandsHost R words source source' told (handed told (host_in reply))
+    → HandsHost R Leaves words source source' told (handed told (host_in reply))
 told_hands R Leaves words source source' sink sink' told reply is written = elim written.whole [
-  | inl came ↦ subst (λ t. HandsHost R words source source' t (handed t (host_in reply))) (sym came.0)
+  | inl came ↦ subst (λ t. HandsHost R Leaves words source source' t (handed t (host_in reply))) (sym came.0)
       (reply_hands R Leaves words source source' reply is)
-  | inr failed ↦ subst (λ t. HandsHost R words source source' t (handed t (host_in reply))) (sym failed.0) refl
+  | inr failed ↦ subst (λ t. HandsHost R Leaves words source source' t (handed t (host_in reply))) (sym failed.0) refl
 ]
 
 -- the call replies, writes and hands on a host, and no more
@@ -105,7 +109,7 @@ pub ended_of : (R : Command → List ℕ → CallOutcome → Type 0) (Leaves : D
     → AnswersWith R Leaves words source source' sink sink' told host
 ended_of R Leaves words source source' sink sink' told host reply is written same = record {
   answers = answers_of R Leaves words source source' sink sink' told reply is written;
-  hands = subst (HandsHost R words source source' told) (sym same)
+  hands = subst (HandsHost R Leaves words source source' told) (sym same)
       (told_hands R Leaves words source source' sink sink' told reply is written);
 }
 
@@ -253,14 +257,47 @@ no_input_reply R Leaves words old new command why are reading still stops =
 
 -- ---- sections
 
+-- a reply is one for all that have its outcomes
+makes_as : (P P' : CallOutcome → Type 0) (section : List ℕ) (reply : Result Text Stop)
+    → ((outcome : CallOutcome) → P outcome → P' outcome) → Makes P section reply → Makes P' section reply
+makes_as P P' section (Ok text) made h = (made _ h.0, h.1)
+makes_as P P' section (Err (stop.Refused refusal host)) made h = (made _ h.0, h.1)
+makes_as P P' section (Err stop.NoMemory) made h = tt {0}
+
 -- what is made of the sections is made of the input, where they are as many as wanted
 pub made_of_sections : (n : ℕ) (P : List (List ℕ) → CallOutcome → Type 0) (input : List ℕ)
     (reply : Result Text Stop) → length (sections_of input) ≡ n
     → Makes (P (sections_of input)) (host_section (sections_of input)) reply
     → Makes (OfSections n P input) (host_section (sections_of input)) reply
-made_of_sections n P input (Ok text) size h = (Sectioned _ size h.0, h.1)
-made_of_sections n P input (Err (stop.Refused refusal host)) size h = (Sectioned _ size h.0, h.1)
-made_of_sections n P input (Err stop.NoMemory) size h = tt {0}
+made_of_sections n P input reply size = makes_as (P (sections_of input)) (OfSections n P input)
+    (host_section (sections_of input)) reply (λ outcome made. Sectioned outcome size made)
+
+-- what is made of the host of the first section is made of the sections
+pub made_of_host : (Q : Host → List (List ℕ) → CallOutcome → Type 0) (sections : List (List ℕ)) (host : Host)
+    (reply : Result Text Stop) → IsHostText (host_section sections) host
+    → Makes (Q host sections) (host_section sections) reply
+    → Makes (OfHost Q sections) (host_section sections) reply
+made_of_host Q sections host reply is = makes_as (Q host sections) (OfHost Q sections) (host_section sections) reply
+    (λ outcome made. Hosted host outcome is made)
+
+-- what is made of the host and the script of the first two sections is made of the sections
+pub made_of_script : (rounds : ℕ) (Q : Host → List Event → List (List ℕ) → CallOutcome → Type 0)
+    (sections : List (List ℕ)) (host : Host) (events : List Event) (reply : Result Text Stop)
+    → HasScript rounds sections host events → Makes (Q host events sections) (host_section sections) reply
+    → Makes (OfHost (OfScript rounds Q) sections) (host_section sections) reply
+made_of_script rounds Q sections host events reply has = makes_as (Q host events sections)
+    (OfHost (OfScript rounds Q) sections) (host_section sections) reply
+    (λ outcome made. Hosted host outcome has.is_host (Scripted events outcome has.is_script made))
+
+-- what is made of the steps of the third section is made of the host, the script and the sections
+pub made_of_steps : (rounds : ℕ) (host : Host) (events : List Event) (steps : List Step) (lines : List ℕ)
+    (sections : List (List ℕ)) (reply : Result Text Stop)
+    → AreSteps host.cores (statements_of (steps_section sections)) steps lines
+    → Makes (ReplaysSteps rounds host events steps lines) (host_section sections) reply
+    → Makes (Replays rounds host events sections) (host_section sections) reply
+made_of_steps rounds host events steps lines sections reply are = makes_as
+    (ReplaysSteps rounds host events steps lines) (Replays rounds host events sections) (host_section sections) reply
+    (λ outcome made. Replays.Listed steps lines outcome are made)
 
 -- the refusal of the number of sections is made of the input, where they aren't as many as wanted
 pub off_sections : (n : ℕ) (P : List (List ℕ) → CallOutcome → Type 0) (input : List ℕ) (why : Stop)

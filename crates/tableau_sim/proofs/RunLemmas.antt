@@ -38,11 +38,13 @@ use Rattle.tableau_sim.specs.declared.reply.Stop.TheVariants as stop
 use Rattle.tableau_sim.specs.declared.reply.Text.{Text}
 use Rattle.tableau_sim.specs.declared.status.Status.{Status}
 use Rattle.tableau_sim.specs.Inside.Reply.{CanBeWritten, HasInput, HasItsHost, IsReadyTo, IsReplyTo, KeepsHost, Makes, MakesOnSeat, names_in}
-use Rattle.tableau_sim.specs.Inside.Running.{HasBurstRoom, IsPrepared, IsReady, IsReadyOf, IsTest, RunsPrepared, head_of}
+use Rattle.tableau_sim.specs.Inside.Running.{HasBurstRoom, IsPrepared, IsReady, IsReadyOf, IsTest, RunsPrepared, RunsSections, head_of}
 use Rattle.tableau_sim.specs.Inside.Stops.{run_stop}
 use Rattle.tableau_sim.specs.Outcomes.{CallOutcome}
 use Rattle.tableau_sim.specs.Outcomes.CallOutcome.{Refuses, Writes}
-use Rattle.tableau_sim.specs.Replay.{HasScript}
+use Rattle.tableau_sim.specs.Hosts.OfHost.{Hosted}
+use Rattle.tableau_sim.specs.Scripts.{HasScript}
+use Rattle.tableau_sim.specs.Scripts.OfScript.{Scripted}
 use Rattle.tableau_sim.specs.Run.{Runs, RunsWhole, text_of_run}
 use Rattle.tableau_sim.specs.Seats.{IsStillIfRefused, LeavesRun, LeavesSeat, OnSeat}
 use Rattle.tableau_sim.specs.Selftest.{Selftests}
@@ -93,12 +95,12 @@ left_on_seat P Q old new reply makes lacks = subst (MakesOnSeat P Q old new) lac
 pub run_reply : (rounds : ℕ) (mode : RunMode) (old new : View) (words : List (List ℕ)) (source source' : SourceView)
     (input : List ℕ) (reply : Result Text Stop) → IsCommand words (called.Run rounds mode)
     → HasInput source source' input → length (sections_of input) ≡ 2
-    → MakesOnSeat (Runs rounds mode new (sections_of input)) (LeavesRun rounds mode old new (sections_of input)) old new reply
+    → MakesOnSeat (RunsSections rounds mode new (sections_of input)) (LeavesRun rounds mode old new (sections_of input)) old new reply
     → HasItsHost (host_section (sections_of input)) reply
     → IsReplyTo (OnSeat old new) (LeavesSeat old new) words source source' reply
 run_reply rounds mode old new words source source' input reply are has two makes its =
-    let P = Runs rounds mode new (sections_of input) in
-    let P' = OfSections 2 (Runs rounds mode new) input in
+    let P = RunsSections rounds mode new (sections_of input) in
+    let P' = OfSections 2 (RunsSections rounds mode new) input in
     let Q = LeavesRun rounds mode old new (sections_of input) in
     input_reply (OnSeat old new) (LeavesSeat old new) words source source' (called.Run rounds mode) input reply are refl
     has (left_on_seat P Q old new reply makes) (on_seat P' Q (host_section (sections_of input)) old new reply
@@ -106,7 +108,7 @@ run_reply rounds mode old new words source source' input reply are has two makes
 
 -- a run that is refused leaves the seat as it was
 still_stop : (rounds : ℕ) (mode : RunMode) (view : View) (input section : List ℕ) (why : Stop)
-    → Makes (OfSections 2 (Runs rounds mode view) input) section (Err why)
+    → Makes (OfSections 2 (RunsSections rounds mode view) input) section (Err why)
     → Makes (OnSeat view view (called.Run rounds mode) input) section (Err why)
 still_stop rounds mode view input section (stop.Refused refusal host) h = ((h.0, refl), h.1)
 still_stop rounds mode view input section stop.NoMemory h = tt {0}
@@ -114,7 +116,7 @@ still_stop rounds mode view input section stop.NoMemory h = tt {0}
 -- why an input isn't run is due after it
 stop_reply : (rounds : ℕ) (mode : RunMode) (view : View) (words : List (List ℕ)) (source source' : SourceView)
     (input : List ℕ) (why : Stop) → IsCommand words (called.Run rounds mode) → HasInput source source' input
-    → Makes (OfSections 2 (Runs rounds mode view) input) (host_section (sections_of input)) (Err why)
+    → Makes (OfSections 2 (RunsSections rounds mode view) input) (host_section (sections_of input)) (Err why)
     → IsReplyTo (OnSeat view view) (LeavesSeat view view) words source source' (Err why)
 stop_reply rounds mode view words source source' input why are has makes =
     input_reply (OnSeat view view) (LeavesSeat view view) words source source' (called.Run rounds mode) input (Err why)
@@ -131,7 +133,7 @@ ready_read rounds mode old new input (Err why) has is = tt {0}
 pub stop_read : (rounds : ℕ) (mode : RunMode) (old new : SourceView) (input : List ℕ) (made : Result Ready Stop)
     → HasInput old new input
     → IfErr made (λ why. (view : View)
-    → Makes (OfSections 2 (Runs rounds mode view) input) (host_section (sections_of input)) (Err why))
+    → Makes (OfSections 2 (RunsSections rounds mode view) input) (host_section (sections_of input)) (Err why))
     → IfErr made (λ why. (words : List (List ℕ)) (view : View) → IsCommand words (called.Run rounds mode)
     → IsReplyTo (OnSeat view view) (LeavesSeat view view) words old new (Err why))
 stop_read rounds mode old new input (Ok prepared) has stops = tt {0}
@@ -141,8 +143,7 @@ stop_read rounds mode old new input (Err why) has stops =
 -- `selftest` refuses no host
 tests_keep : (seed : ℕ) (view : View) (outcome : CallOutcome) (section : List ℕ) (refusal : Status) (host : Option Host)
     → Selftests seed view outcome → outcome ≡ Refuses refusal (names_in host) → KeepsHost section refusal host
-tests_keep seed view outcome section refusal host (Selftests.Tested made book report is of whole reports) same =
-    absurd cc
+tests_keep seed view outcome section refusal host (Selftests.Tested made text is of) same = absurd cc
 
 -- a self test has no host that is refused for room
 tests_have : (seed : ℕ) (Q : Type 0) (old new : View) (section : List ℕ) (reply : Result Text Stop)
@@ -164,20 +165,27 @@ test_reply seed old new words source reply are makes =
 
 -- ---- what is made of what was prepared
 
+-- an outcome of a host and a script is one of their sections
+pub run_of_script : (rounds : ℕ) (mode : RunMode) (view : View) (sections : List (List ℕ)) (host : Host)
+    (events : List Event) (outcome : CallOutcome) → HasScript rounds sections host events
+    → Runs rounds mode view host events sections outcome → RunsSections rounds mode view sections outcome
+run_of_script rounds mode view sections host events outcome has made =
+    Hosted host outcome has.is_host (Scripted events outcome has.is_script made)
+
 -- what is made of a host and a script is what `run` makes of their sections
 prepared_runs : (rounds : ℕ) (mode : RunMode) (view : View) (sections : List (List ℕ)) (host : Host) (events : List Event)
     (book : BookView) → HasScript rounds sections host events → IsBookOf host events book → (outcome : CallOutcome)
-    → RunsPrepared rounds mode None host events book view outcome → Runs rounds mode view sections outcome
+    → RunsPrepared rounds mode None host events book view outcome → RunsSections rounds mode view sections outcome
 prepared_runs rounds mode view sections host events book script is _ (RunsPrepared.Ran report answers whole short reports bursts) =
-    Runs.Ran host events book report answers script is whole short reports bursts
+    run_of_script rounds mode view sections host events _ script (Runs.Ran book report answers is whole short reports bursts)
 prepared_runs rounds mode view sections host events book script is _ (RunsPrepared.TraceTooLong bound long) =
-    Runs.TraceTooLong host events book bound script is long
+    run_of_script rounds mode view sections host events _ script (Runs.TraceTooLong book bound is long)
 
 -- the reply of a run that was prepared is one of `run`
 pub prepared_reply : (rounds : ℕ) (mode : RunMode) (old new : View) (sections : List (List ℕ)) (run : Prepared)
     (reply : Result Text Stop) → IsReadyOf rounds mode sections (readied.Prepared run)
     → MakesOnSeat (RunsPrepared rounds mode run.seed run.host run.script run.book new) (new ≡ old) old new reply
-    → MakesOnSeat (Runs rounds mode new sections) (LeavesRun rounds mode old new sections) old new reply
+    → MakesOnSeat (RunsSections rounds mode new sections) (LeavesRun rounds mode old new sections) old new reply
 prepared_reply rounds mode old new sections run reply is makes = made_as _ _ _ _ old new reply
     (λ outcome made. prepared_runs rounds mode new sections run.host run.script run.book is.2 is.0.book outcome
     (subst (λ seed. RunsPrepared rounds mode seed run.host run.script run.book new outcome) is.1 made))
@@ -205,7 +213,7 @@ prepared_tests : (seed : ℕ) (view : View) (host : Host) (book : BookView) → 
     → IsBookOf host [] book → (outcome : CallOutcome) → RunsPrepared 4 Report (Some seed) host [] book view outcome
     → Selftests seed view outcome
 prepared_tests seed view host book generated is _ (RunsPrepared.Ran report answers whole short reports bursts) =
-    Selftests.Tested host book report generated is whole reports
+    Selftests.Tested host _ generated (Runs.Ran book report answers is whole short reports bursts)
 prepared_tests seed view host book generated is _ (RunsPrepared.TraceTooLong bound long) = let asked = long.asked in absurd cc
 
 -- the reply of a run of the seed's host is one of `selftest`

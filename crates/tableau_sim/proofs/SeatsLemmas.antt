@@ -1,59 +1,73 @@
 -- The calls with a seat: what they share with those without one, and what a run's `Ok` tells.
 use Rattle.tab_words.specs.declared.command.Usage.{Usage}
-use Rattle.std.proofs.Common.{◌≡◌, ℕ, List, Option, None, Some, Result, Ok, false, refl, inl}
+use Rattle.std.proofs.Common.{◌≡◌, ℕ, List, [], Option, None, Some, Result, Ok, false, refl, inl, subst}
 use Rattle.tab_core.specs.declared.host.Host.{Host}
 use Rattle.tab_io.specs.Views.{SourceView, SinkView}
 use Rattle.tab_words.specs.Commands.{IsCommand}
 use Rattle.tab_words.specs.declared.command.Command.{Command}
 use Rattle.tab_words.specs.declared.command.Command.TheVariants as called
 use Rattle.tab_words.specs.declared.command.RunMode.{RunMode}
-use Rattle.tab_words.specs.declared.command.RunMode.TheVariants.{Live}
+use Rattle.tab_words.specs.declared.command.RunMode.TheVariants.{Live, Report}
 use Rattle.round_words.specs.declared.view.View.{View}
 use Rattle.tableau_sim.specs.declared.status.Status.{Status}
 use Rattle.tableau_sim.specs.declared.status.Status.TheVariants as status
 use Rattle.tableau_sim.specs.Columns.{reads}
 use Rattle.tableau_sim.specs.Commands.{AreStill, IsStillCommand, LeavesNothing, Replies}
-use Rattle.tableau_sim.specs.Frame.{Answers, Due, IsDue}
+use Rattle.tableau_sim.specs.Frame.{Answers, Due, HasDue, IsDue}
 use Rattle.tableau_sim.specs.Frame.Due.{LacksMemory, NoCommand, Replied, SourceFailed, TooMuch}
 use Rattle.tableau_sim.specs.Outcomes.{CallOutcome, IsOfInput, status_of}
-use Rattle.tableau_sim.specs.Outcomes.CallOutcome.{Refuses}
-use Rattle.tableau_sim.specs.Run.{Runs}
+use Rattle.tableau_sim.specs.Outcomes.CallOutcome.{Refuses, Writes}
+use Rattle.script_doc.specs.declared.event.Event.{Event}
+use Rattle.table_form.specs.Running.Courses.{CourseView}
+use Rattle.tableau_sim.specs.Hosts.OfHost.{BadHost, Hosted}
+use Rattle.tableau_sim.specs.Inside.Running.{RunsSections}
+use Rattle.tableau_sim.specs.Scripts.{OfScript}
+use Rattle.tableau_sim.specs.Scripts.OfScript.{BadScript, Scripted}
+use Rattle.tableau_sim.specs.Run.{Runs, RunsWhole}
 use Rattle.tableau_sim.specs.Seats.{HasRun, HasTested, LeavesRun, LeavesSeat, OnSeat}
 use Rattle.tableau_sim.specs.Sections.{OfSections}
 use Rattle.tableau_sim.specs.Sections.OfSections.{BadSections, Sectioned}
-use Rattle.tableau_sim.specs.Clauses.{HandsHost, WroteFor}
+use Rattle.tableau_sim.specs.Clauses.{HandsHost}
 use Rattle.tableau_sim.specs.Inside.Reply.{AnswersWith}
 use Rattle.tab_words.specs.Sections.{sections_of}
 use Rattle.std.specs.Io.KnownBytes.{Consumes}
 use Rattle.tableau_sim.specs.Selftest.{Selftests}
-use Rattle.tableau_sim.proofs.OutcomesLemmas.{refuses_input, sections_refuse, writes_unread}
+use Rattle.tableau_sim.proofs.ClausesLemmas.{WroteFor}
+use Rattle.tableau_sim.proofs.OutcomesLemmas.{host_refuses, refuses_input, script_refuses, sections_refuse, unplanned_tells, writes_unread}
 
 -- each refusal of `run` tells of its input, by its constructors
-run_refuses : (rounds : ℕ) (mode : RunMode) (view : View) (sections : List (List ℕ)) (refusal : Status)
-    (names : List (List ℕ)) → Runs rounds mode view sections (Refuses refusal names) → IsOfInput refusal
-run_refuses rounds mode view sections refusal names (Runs.BadHost fault is) = tt {0}
-run_refuses rounds mode view sections refusal names (Runs.BadScript host fault is faulty) = tt {0}
-run_refuses rounds mode view sections refusal names (Runs.NoPeriod host events vcpu has lacks) = tt {0}
-run_refuses rounds mode view sections refusal names (Runs.NoRoom host events vcpu rest over has lacks) = tt {0}
-run_refuses rounds mode view sections refusal names (Runs.TraceTooLong host events book bound has is long) =
-    tt {0}
+run_refuses : (rounds : ℕ) (mode : RunMode) (view : View) (host : Host) (events : List Event)
+    (sections : List (List ℕ)) (refusal : Status) (names : List (List ℕ))
+    → Runs rounds mode view host events sections (Refuses refusal names) → IsOfInput refusal
+run_refuses rounds mode view host events sections refusal names (Runs.Unplanned same lacks) =
+    unplanned_tells [] host refusal lacks
+run_refuses rounds mode view host events sections refusal names (Runs.TraceTooLong book bound is long) = tt {0}
+
+-- each refusal of the input of `run` tells of it
+run_input_refuses : (rounds : ℕ) (mode : RunMode) (view : View) (input : List ℕ) (refusal : Status)
+    (names : List (List ℕ)) → OfSections 2 (RunsSections rounds mode view) input (Refuses refusal names)
+    → IsOfInput refusal
+run_input_refuses rounds mode view input refusal names =
+    sections_refuse 2 (RunsSections rounds mode view) input refusal names
+    (λ s r ns. host_refuses (OfScript rounds (Runs rounds mode view)) s r ns
+    (λ host parts r' ns'. script_refuses rounds (Runs rounds mode view) host parts r' ns'
+    (run_refuses rounds mode view)))
 
 -- `selftest` writes a text
 selftest_writes : (seed : ℕ) (view : View) (outcome : CallOutcome) → Selftests seed view outcome
     → status_of outcome ≡ status.Ok
-selftest_writes seed view outcome (Selftests.Tested host book report is of whole reports) = refl
+selftest_writes seed view outcome (Selftests.Tested host text is of) = refl
 
 -- the refusals of `selftest` are of its input: there are none
 selftest_refuses : (seed : ℕ) (view : View) (outcome : CallOutcome) (refusal : Status) (names : List (List ℕ))
     → Selftests seed view outcome → outcome ≡ Refuses refusal names → IsOfInput refusal
-selftest_refuses seed view outcome refusal names (Selftests.Tested host book report is of whole reports) same =
-    absurd cc
+selftest_refuses seed view outcome refusal names (Selftests.Tested host text is of) same = absurd cc
 
 -- no command refuses as the frame does, with a seat either
 pub seat_refuses : (old new : View) (command : Command) (input : List ℕ) (refusal : Status)
     (names : List (List ℕ)) → OnSeat old new command input (Refuses refusal names) → IsOfInput refusal
 seat_refuses old new (called.Run rounds mode) input refusal names h =
-    sections_refuse 2 (Runs rounds mode new) input refusal names (run_refuses rounds mode new) h.0
+    run_input_refuses rounds mode new input refusal names h.0
 seat_refuses old new (called.Selftest seed) input refusal names h =
     selftest_refuses seed new _ refusal names h.0 refl
 seat_refuses old new other input refusal names h = refuses_input other input refusal names h.0
@@ -96,32 +110,36 @@ due_with_seat view words old new input (LacksMemory command) still h =
 due_with_seat view words old new input (Replied command outcome) still h =
     (h.0, h.1, left_alone view command input outcome (still command h.0) h.2)
 
+-- what was due without a seat was due with one
+abbrev had_with_seat : (view : View) (words : List (List ℕ)) (old new : SourceView) (due : Due) → AreStill words
+    → HasDue Replies LeavesNothing words old new due → HasDue (OnSeat view view) (LeavesSeat view view) words old new due
+had_with_seat view words old new due still had = record {
+  input = had.input;
+  consumed = had.consumed;
+  is_due = due_with_seat view words old new had.input due still had.is_due;
+}
+
 -- the answer with a seat is that without one
 answers_with_seat : (view : View) (words : List (List ℕ)) (source source' : SourceView)
     (sink sink' : SinkView) (told : Status) → AreStill words
     → Answers Replies LeavesNothing words source source' sink sink' told
     → Answers (OnSeat view view) (LeavesSeat view view) words source source' sink sink' told
 answers_with_seat view words source source' sink sink' told still a = record {
-  input = a.input;
-  consumed = a.consumed;
-  later = a.later;
   due = a.due;
-  is_due = due_with_seat view words source source' a.input a.due still a.is_due;
+  has_due = had_with_seat view words source source' a.due still a.has_due;
+  later = a.later;
   written = a.written;
 }
 
 -- what is handed on without a seat is handed on with one that is left
 hands_with_seat : (view : View) (words : List (List ℕ)) (source source' : SourceView) (told : Status)
-    (host : Option Host) → AreStill words → HandsHost Replies words source source' told host
-    → HandsHost (OnSeat view view) words source source' told host
+    (host : Option Host) → AreStill words → HandsHost Replies LeavesNothing words source source' told host
+    → HandsHost (OnSeat view view) (LeavesSeat view view) words source source' told host
 hands_with_seat view words source source' (status.NoRoom vcpu rest over) None still h = h
 hands_with_seat view words source source' (status.NoRoom vcpu rest over) (Some host) still h = record {
   command = h.command;
-  words_are = h.words_are;
-  input = h.input;
-  read = h.read;
+  had = had_with_seat view words source source' _ still h.had;
   is_host = h.is_host;
-  replies = left_alone view h.command h.input _ (still h.command h.words_are) h.replies;
 }
 hands_with_seat view words source source' other host still h = h
 
@@ -137,54 +155,70 @@ ended_with_seat view words source source' sink sink' told host still a = record 
 
 -- ---- what `Ok` of a run tells
 
+-- a run on some course of a host and a script
+record HasCourse (rounds : ℕ) (host : Host) (events : List Event) (view : View) : Type 0 where
+  course : CourseView
+  whole : RunsWhole rounds host events course view
+
 -- the text of a run is that of a whole run
+run_whole : (rounds : ℕ) (mode : RunMode) (view : View) (host : Host) (events : List Event)
+    (sections : List (List ℕ)) (outcome : CallOutcome) → status_of outcome ≡ status.Ok
+    → Runs rounds mode view host events sections outcome → HasCourse rounds host events view
+run_whole rounds mode view host events sections _ ok (Runs.Ran book report answers is whole short reports told) =
+    record { course = book.course; whole = whole }
+run_whole rounds mode view host events sections _ ok (Runs.Unplanned refusal lacks) =
+    absurd (subst IsOfInput ok (unplanned_tells [] host refusal lacks))
+run_whole rounds mode view host events sections _ ok (Runs.TraceTooLong book bound is long) = absurd cc
+
+-- the text of a run of sections is that of a whole run of their host and script
 run_has : (rounds : ℕ) (mode : RunMode) (view : View) (input : List ℕ) (outcome : CallOutcome)
-    (source source' : SourceView) → Consumes source.rest source'.rest input
-    → status_of outcome ≡ status.Ok → Runs rounds mode view (sections_of input) outcome
-    → HasRun rounds source source' view
+    (source source' : SourceView) → Consumes source.rest source'.rest input → status_of outcome ≡ status.Ok
+    → RunsSections rounds mode view (sections_of input) outcome → HasRun rounds source source' view
+run_has rounds mode view input _ source source' consumed ok (BadHost fault bad) = absurd cc
+run_has rounds mode view input _ source source' consumed ok (Hosted host _ is (BadScript fault bad)) = absurd cc
 run_has rounds mode view input _ source source' consumed ok
-    (Runs.Ran host events book report answers script is whole short reports told) = record {
+    (Hosted host _ is (Scripted events outcome script made)) =
+    let run = run_whole rounds mode view host events (sections_of input) outcome ok made in
+    record {
       input = input;
       consumed = consumed;
       host = host;
       events = events;
-      course = book.course;
-      script = script;
-      whole = whole;
+      course = run.course;
+      script = record { is_host = is; is_script = script };
+      whole = run.whole;
     }
-run_has rounds mode view input _ source source' consumed ok (Runs.BadHost fault bad) = absurd cc
-run_has rounds mode view input _ source source' consumed ok (Runs.BadScript host fault is bad) = absurd cc
-run_has rounds mode view input _ source source' consumed ok (Runs.NoPeriod host events vcpu script lacks) =
-    absurd cc
-run_has rounds mode view input _ source source' consumed ok
-    (Runs.NoRoom host events vcpu rest over script lacks) = absurd cc
-run_has rounds mode view input _ source source' consumed ok
-    (Runs.TraceTooLong host events book bound script is long) = absurd cc
 
 -- the text of a run is that of its input
 run_of : (rounds : ℕ) (mode : RunMode) (view : View) (input : List ℕ) (outcome : CallOutcome)
     (source source' : SourceView) → Consumes source.rest source'.rest input
-    → status_of outcome ≡ status.Ok → OfSections 2 (Runs rounds mode view) input outcome
+    → status_of outcome ≡ status.Ok → OfSections 2 (RunsSections rounds mode view) input outcome
     → HasRun rounds source source' view
 run_of rounds mode view input _ source source' consumed ok (BadSections found is off) = absurd cc
 run_of rounds mode view input _ source source' consumed ok (Sectioned outcome two made) =
     run_has rounds mode view input outcome source source' consumed ok made
 
 -- the clause `ran`
-pub ran_told : (old new : View) (rounds : ℕ) (mode : RunMode) (source source' : SourceView)
-    (sink sink' : SinkView) → WroteFor (OnSeat old new) (called.Run rounds mode) source source' sink sink'
+pub ran_told : (old new : View) (words : List (List ℕ)) (rounds : ℕ) (mode : RunMode) (source source' : SourceView)
+    (sink sink' : SinkView)
+    → WroteFor (OnSeat old new) (LeavesSeat old new) words (called.Run rounds mode) source source' sink sink'
     → HasRun rounds source source' new
-ran_told old new rounds mode source source' sink sink' wrote =
-    run_of rounds mode new wrote.input _ source source' wrote.read.consumed refl wrote.replies.0
+ran_told old new words rounds mode source source' sink sink' wrote =
+    let had = wrote.1.had in
+    run_of rounds mode new had.input _ source source' had.consumed refl had.is_due.2.0
+
+-- a self test whose text is written is a whole run
+test_of : (seed : ℕ) (view : View) (outcome : CallOutcome) → Selftests seed view outcome → HasTested seed view
+test_of seed view outcome (Selftests.Tested host text is of) =
+    let run = run_whole 4 Report view host [] [] (Writes text) refl of in
+    record { host = host; course = run.course; is = is; whole = run.whole }
 
 -- the clause `tested`
-test_of : (seed : ℕ) (view : View) (outcome : CallOutcome) → Selftests seed view outcome → HasTested seed view
-test_of seed view outcome (Selftests.Tested host book report is of whole reports) =
-    record { host = host; course = book.course; is = is; whole = whole }
-
-pub tested_told : (old new : View) (seed : ℕ) (source source' : SourceView) (sink sink' : SinkView)
-    → WroteFor (OnSeat old new) (called.Selftest seed) source source' sink sink' → HasTested seed new
-tested_told old new seed source source' sink sink' wrote = test_of seed new _ wrote.replies.0
+pub tested_told : (old new : View) (words : List (List ℕ)) (seed : ℕ) (source source' : SourceView)
+    (sink sink' : SinkView)
+    → WroteFor (OnSeat old new) (LeavesSeat old new) words (called.Selftest seed) source source' sink sink'
+    → HasTested seed new
+tested_told old new words seed source source' sink sink' wrote = test_of seed new _ wrote.1.had.is_due.2.0
 
 -- ---- the words
 

@@ -6,7 +6,8 @@ use Rattle.tab_words.specs.Sections.{sections_of}
 use Rattle.host_doc.specs.Document.{IsHostText}
 use Rattle.host_doc.proofs.OneHost.{one_host}
 use Rattle.tableau_sim.specs.declared.status.Status.TheVariants as status
-use Rattle.tableau_sim.specs.Hosts.{IsHostFault}
+use Rattle.tableau_sim.specs.Hosts.{OfHost}
+use Rattle.tableau_sim.specs.Hosts.OfHost.{BadHost, Hosted}
 use Rattle.tableau_sim.specs.Outcomes.{CallOutcome}
 use Rattle.tableau_sim.specs.Outcomes.CallOutcome.{Refuses}
 use Rattle.tableau_sim.specs.Sections.{OfSections, host_section}
@@ -67,17 +68,13 @@ one_of_sections n P input a b each (BadSections found is off) (Sectioned _ size 
 one_of_sections n P input a b each (BadSections found is off) (BadSections found' is' off') =
     ap (λ k. Refuses (status.BadSections k n) []) (is ∙ sym is')
 
--- the first section is a host or has a fault
-abbrev pub HostStage : List (List ℕ) → (Host → CallOutcome → Type 0) → CallOutcome → Type 0
-HostStage sections = Staged (IsHostFault (host_section sections)) (λ f. Refuses (status.Host f) [])
-    (IsHostText (host_section sections))
-
 -- the first section is one host, or has one fault
-pub one_host_stage : (sections : List (List ℕ)) (Then : Host → CallOutcome → Type 0) (a b : CallOutcome)
-    → ((h : Host) → IsHostText (host_section sections) h → Then h a → Then h b → a ≡ b)
-    → HostStage sections Then a → HostStage sections Then b → a ≡ b
-one_host_stage sections Then a b = one_staged _ _ _ Then a b (record {
-  cause = one_host_fault (host_section sections);
-  thing = one_host (host_section sections);
-  apart = no_host_fault (host_section sections);
-})
+pub one_of_host : (Q : Host → List (List ℕ) → CallOutcome → Type 0) (s : List (List ℕ)) (a b : CallOutcome)
+    → ((h : Host) → IsHostText (host_section s) h → Q h s a → Q h s b → a ≡ b)
+    → OfHost Q s a → OfHost Q s b → a ≡ b
+one_of_host Q s a b each (Hosted h _ is p) (Hosted g _ also q) =
+    each h is p (subst (λ k. Q k s b) (one_host _ g h also is) q)
+one_of_host Q s a b each (Hosted h _ is p) (BadHost f bad) = absurd (no_host_fault _ f h bad is)
+one_of_host Q s a b each (BadHost f bad) (Hosted h _ is p) = absurd (no_host_fault _ f h bad is)
+one_of_host Q s a b each (BadHost f bad) (BadHost g also) =
+    ap (λ fault. Refuses (status.Host fault) []) (one_host_fault _ f g bad also)

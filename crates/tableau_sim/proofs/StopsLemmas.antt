@@ -1,8 +1,7 @@
 -- What stops one command stops each: a section that is no host, or a host that can't be planned.
-use Rattle.std.proofs.Common.{◌≡◌, ◌⊎◌, ℕ, List, [], Err, refl, sym, subst, inl, inr}
+use Rattle.std.proofs.Common.{◌≡◌, ◌⊎◌, ℕ, List, [], Option, Err, refl, sym, subst, inl, inr}
 use Rattle.tab_core.specs.declared.host.Host.{Host}
 use Rattle.tab_core.specs.declared.over.Over.{Over}
-use Rattle.host_doc.specs.declared.fault.HostFault.{HostFault}
 use Rattle.period_choice.specs.declared.fault.TaskFault.{TaskFault}
 use Rattle.period_choice.specs.declared.fault.TaskFault.TheVariants as lacks
 use Rattle.plan_make.specs.declared.fault.PlanFault.{PlanFault}
@@ -18,24 +17,30 @@ use Rattle.table_check.specs.declared.fault.CheckFault.{CheckFault}
 use Rattle.table_check.specs.declared.fault.CheckFault.TheVariants as tables
 use Rattle.script_doc.specs.declared.script_fault.ScriptFault.{ScriptFault}
 use Rattle.script_doc.specs.declared.script_fault.ScriptFault.TheVariants as script
-use Rattle.tableau_sim.specs.Hosts.{IsHostFault}
+use Rattle.tableau_sim.specs.Hosts.{OfHost}
+use Rattle.tableau_sim.specs.Hosts.OfHost.{BadHost, Hosted}
+use Rattle.tableau_sim.specs.Plan.{HasNoPlan}
+use Rattle.tableau_sim.specs.Scripts.{OfScript, script_section}
+use Rattle.tableau_sim.specs.Scripts.OfScript.{BadScript}
+use Rattle.period_choice.specs.Tasks.{IsFirstWithoutPeriod}
+use Rattle.plan_make.specs.Planned.{IsFirstStayingWithoutRoom}
+use Rattle.script_doc.specs.declared.event.Event.{Event}
+use Rattle.tableau_sim.specs.declared.status.Status.{Status}
 use Rattle.tableau_sim.specs.Outcomes.{CallOutcome}
 use Rattle.tableau_sim.specs.Outcomes.CallOutcome.{Refuses}
 use Rattle.host_doc.specs.Document.{IsHostText}
 use Rattle.script_doc.specs.ScriptFaults.{IsFirstFault}
 use Rattle.script_doc.specs.Statements.{statements_of}
-use Rattle.tableau_sim.specs.Replay.{script_section}
 use Rattle.tableau_sim.specs.Sections.{host_section}
 use Rattle.tableau_sim.specs.Inside.Stops.{IsHostStop, IsScriptStop, check_stop, plan_stop, script_stop, tasks_stop, whole_stop}
 
--- where a section is no host, any command P that refuses it so makes the stop
-pub host_stopped : (P : CallOutcome → Type 0) (section : List ℕ) (why : Stop)
-    → ((bad : HostFault) → IsHostFault section bad → P (Refuses (status.Host bad) []))
-    → IsHostStop section why → Makes P section (Err why)
-host_stopped P section stop.NoMemory faulty h = tt {0}
-host_stopped P section (stop.Refused (status.Host bad) host) faulty h =
-    (subst (λ o. P (Refuses (status.Host bad) (names_in o))) (sym h.1) (faulty bad h.0), tt {0})
-host_stopped P section (stop.Refused other host) faulty h = absurd h
+-- a first section that is no host stops any command that is to read one
+pub host_stopped : (Q : Host → List (List ℕ) → CallOutcome → Type 0) (sections : List (List ℕ)) (why : Stop)
+    → IsHostStop (host_section sections) why → Makes (OfHost Q sections) (host_section sections) (Err why)
+host_stopped Q sections stop.NoMemory h = tt {0}
+host_stopped Q sections (stop.Refused (status.Host bad) host) h =
+    (subst (λ o. OfHost Q sections (Refuses (status.Host bad) (names_in o))) (sym h.1) (BadHost bad h.0), tt {0})
+host_stopped Q sections (stop.Refused other host) h = absurd h
 
 -- where a host has no tasks, any command P that refuses it so makes the stop
 pub tasks_stopped : (P : CallOutcome → Type 0) (section : List ℕ) (host : Host) (f : TaskFault)
@@ -45,15 +50,17 @@ tasks_stopped P section host (lacks.NoPeriod vcpu) no_period = (no_period vcpu r
 tasks_stopped P section host lacks.NoMemory no_period = tt {0}
 
 -- where a host has no plan, any command P that refuses it so makes the stop
-pub plan_stopped : (P : CallOutcome → Type 0) (section : List ℕ) (host : Host) (f : PlanFault)
-    → IsHostText section host
-    → ((vcpu : ℕ) → f ≡ fault.NoPeriod vcpu → P (Refuses (status.NoPeriod vcpu) (names_of host.vcpus)))
+pub plan_stopped : (P : CallOutcome → Type 0) (section : List ℕ) (homes : List (Option ℕ)) (host : Host) (f : PlanFault)
+    → IsHostText section host → ((vcpu : ℕ) → f ≡ fault.NoPeriod vcpu → IsFirstWithoutPeriod host vcpu)
     → ((vcpu rest : ℕ) (over : List Over) → f ≡ fault.NoRoom vcpu rest over
-    → P (Refuses (status.NoRoom vcpu rest over) (names_of host.vcpus)))
+    → IsFirstStayingWithoutRoom homes host vcpu rest over)
+    → ((refusal : Status) → HasNoPlan homes host refusal → P (Refuses refusal (names_of host.vcpus)))
     → Makes P section (Err (plan_stop f host))
-plan_stopped P section host (fault.NoPeriod vcpu) is no_period no_room = (no_period vcpu refl, tt {0})
-plan_stopped P section host (fault.NoRoom vcpu rest over) is no_period no_room = (no_room vcpu rest over refl, is)
-plan_stopped P section host fault.NoMemory is no_period no_room = tt {0}
+plan_stopped P section homes host (fault.NoPeriod vcpu) is no_period no_room refused =
+    (refused (status.NoPeriod vcpu) (no_period vcpu refl), tt {0})
+plan_stopped P section homes host (fault.NoRoom vcpu rest over) is no_period no_room refused =
+    (refused (status.NoRoom vcpu rest over) (no_room vcpu rest over refl), is)
+plan_stopped P section homes host fault.NoMemory is no_period no_room refused = tt {0}
 
 -- where a host has no plan without room, the stop keeps the host
 pub plan_keeps : (section : List ℕ) (host : Host) (f : PlanFault) → IsHostText section host
@@ -88,16 +95,18 @@ script_stops_it rounds sections host script.NoMemory is h = tt {0}
 script_stops_it rounds sections host f is (inl lacks) = absurd cc
 script_stops_it rounds sections host f is (inr faulty) = (host, is, faulty, refl)
 
--- where the first two sections are no host and script, any command P that refuses them so makes the stop
-pub script_stopped : (P : CallOutcome → Type 0) (rounds : ℕ) (sections : List (List ℕ)) (why : Stop)
-    → ((bad : HostFault) → IsHostFault (host_section sections) bad → P (Refuses (status.Host bad) []))
-    → ((host : Host) (bad : ScriptFault) → IsHostText (host_section sections) host
-    → IsFirstFault (names_of host.vcpus) rounds (statements_of (script_section sections)) bad
-    → P (Refuses (status.Script bad) []))
-    → IsScriptStop rounds sections why → Makes P (host_section sections) (Err why)
-script_stopped P rounds sections stop.NoMemory no_host no_script is = tt {0}
-script_stopped P rounds sections (stop.Refused (status.Host bad) host) no_host no_script is =
-    (subst (λ o. P (Refuses (status.Host bad) (names_in o))) (sym is.1) (no_host bad is.0), tt {0})
-script_stopped P rounds sections (stop.Refused (status.Script bad) named) no_host no_script is =
-    (subst (λ o. P (Refuses (status.Script bad) (names_in o))) (sym is.3) (no_script is.0 bad is.1 is.2), tt {0})
-script_stopped P rounds sections (stop.Refused other host) no_host no_script is = absurd is
+-- first sections that are no host and script stop any command that is to read these
+pub script_stopped : (rounds : ℕ) (Q : Host → List Event → List (List ℕ) → CallOutcome → Type 0)
+    (sections : List (List ℕ)) (why : Stop) → IsScriptStop rounds sections why
+    → Makes (OfHost (OfScript rounds Q) sections) (host_section sections) (Err why)
+script_stopped rounds Q sections stop.NoMemory is = tt {0}
+script_stopped rounds Q sections (stop.Refused (status.Host bad) host) is = (
+  subst (λ o. OfHost (OfScript rounds Q) sections (Refuses (status.Host bad) (names_in o))) (sym is.1) (BadHost bad is.0),
+  tt {0},
+)
+script_stopped rounds Q sections (stop.Refused (status.Script bad) named) is = (
+  subst (λ o. OfHost (OfScript rounds Q) sections (Refuses (status.Script bad) (names_in o))) (sym is.3)
+      (Hosted is.0 _ is.1 (BadScript bad is.2)),
+  tt {0},
+)
+script_stopped rounds Q sections (stop.Refused other host) is = absurd is

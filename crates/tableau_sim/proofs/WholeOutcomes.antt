@@ -17,8 +17,10 @@ use Rattle.tableau_sim.specs.declared.status.Status.{Status}
 use Rattle.tableau_sim.specs.declared.status.Status.TheVariants as status
 use Rattle.tableau_sim.specs.Outcomes.{CallOutcome}
 use Rattle.tableau_sim.specs.Outcomes.CallOutcome.{Refuses, Writes}
-use Rattle.tableau_sim.specs.PlanWhole.{HasWholePlan, PlansWhole}
-use Rattle.tableau_sim.proofs.Stages.{Ends, HostStage, one_host_stage}
+use Rattle.tableau_sim.specs.Hosts.{OfHost}
+use Rattle.tableau_sim.specs.Plan.{HasPlan}
+use Rattle.tableau_sim.specs.PlanWhole.{PlansWhole}
+use Rattle.tableau_sim.proofs.Stages.{Ends, one_of_host}
 
 -- why a host has no such plan, in the form in which `plan_whole` says it
 abbrev HasWholeFault : Host → WholeFault → Type 0
@@ -67,16 +69,14 @@ whole_or_fault h p whole.NoMemory is bad = bad
 
 -- what `plan whole` makes of a host
 abbrev OfWholeHost : Host → CallOutcome → Type 0
-OfWholeHost h = Ends (HasWholeFault h) (whole_refusal h) (HasWholePlan h)
+OfWholeHost h = Ends (HasWholeFault h) (whole_refusal h) (HasPlan IsWholePlan h)
     (λ p. Writes (plan_text (names_of h.vcpus) p))
 
 -- an outcome of it, by its stages
-whole_stages : (s : List (List ℕ)) (o : CallOutcome) → PlansWhole s o → HostStage s OfWholeHost o
-whole_stages s o (PlansWhole.Planned h p is has) = inr (h, is, inr (p, has, refl))
-whole_stages s o (PlansWhole.BadHost f bad) = inl (f, bad, refl)
-whole_stages s o (PlansWhole.NoPeriod h vcpu is lacks) = inr (h, is, inl (whole.NoPeriod vcpu, lacks, refl))
-whole_stages s o (PlansWhole.NoFit h demand room is beyond) =
-    inr (h, is, inl (whole.NoFit demand room, beyond, refl))
+whole_stages : (h : Host) (s : List (List ℕ)) (o : CallOutcome) → PlansWhole h s o → OfWholeHost h o
+whole_stages h s o (PlansWhole.Planned p has) = inr (p, has, refl)
+whole_stages h s o (PlansWhole.NoPeriod vcpu lacks) = inl (whole.NoPeriod vcpu, lacks, refl)
+whole_stages h s o (PlansWhole.NoFit demand room beyond) = inl (whole.NoFit demand room, beyond, refl)
 
 -- a refusal of a host is its only outcome
 whole_refused : (h : Host) (a b : CallOutcome) (refusal : Status) (names : List (List ℕ))
@@ -88,7 +88,6 @@ whole_refused h a b refusal names is (inr p) q = let e = sym is ∙ p.2 in absur
 
 -- a refusal of sections is their only outcome
 pub whole_only : (s : List (List ℕ)) (refusal : Status) (names : List (List ℕ)) (b : CallOutcome)
-    → PlansWhole s (Refuses refusal names) → PlansWhole s b → Refuses refusal names ≡ b
-whole_only s refusal names b of_a of_b = one_host_stage s OfWholeHost (Refuses refusal names) b
-    (λ h is. whole_refused h (Refuses refusal names) b refusal names refl)
-    (whole_stages s _ of_a) (whole_stages s b of_b)
+    → OfHost PlansWhole s (Refuses refusal names) → OfHost PlansWhole s b → Refuses refusal names ≡ b
+whole_only s refusal names b = one_of_host PlansWhole s (Refuses refusal names) b (λ h is of_a of_b.
+    whole_refused h (Refuses refusal names) b refusal names refl (whole_stages h s _ of_a) (whole_stages h s b of_b))

@@ -23,7 +23,7 @@ use Rattle.host_gen.specs.Generated.{IsGenerated}
 use Rattle.round_words.specs.declared.view.View.{View}
 use Rattle.run_state.specs.Readings.{state_of}
 use Rattle.run_state.specs.RunViews.{HoldsAllParts}
-use Rattle.tableau_sim.specs.Replay.{script_section}
+use Rattle.tableau_sim.specs.Scripts.{script_section}
 use Rattle.tableau_sim.specs.Sections.{host_section}
 
 -- the member of this number is a table that states the vCPU

@@ -2,18 +2,10 @@
 -- is none.
 use Rattle.std.specs.Prelude.{◌≡◌, ℕ, List, [], ◌++◌}
 use Rattle.tab_core.specs.declared.host.Host.{Host}
-use Rattle.tab_core.specs.declared.over.Over.{Over}
 use Rattle.tab_words.specs.declared.command.RunMode.{RunMode}
-use Rattle.tab_words.specs.declared.command.RunMode.TheVariants.{Report, Trace, Burst, Live}
-use Rattle.host_doc.specs.Document.{IsHostText}
-use Rattle.host_doc.specs.declared.fault.HostFault.{HostFault}
+use Rattle.tab_words.specs.declared.command.RunMode.TheVariants.{Burst}
 use Rattle.vcpu_names.specs.Names.{names_of}
-use Rattle.script_doc.specs.Statements.{statements_of}
-use Rattle.script_doc.specs.ScriptFaults.{IsFirstFault}
 use Rattle.script_doc.specs.declared.event.Event.{Event}
-use Rattle.script_doc.specs.declared.script_fault.ScriptFault.{ScriptFault}
-use Rattle.period_choice.specs.Tasks.{IsFirstWithoutPeriod}
-use Rattle.plan_make.specs.Planned.{IsFirstWithoutRoom}
 use Rattle.plan_book.specs.Books.{BookView, IsBookOf}
 use Rattle.plan_book.specs.Courses.{IsCourseOf}
 use Rattle.plan_promises.specs.Runs.{RunKeepsReservations}
@@ -31,12 +23,11 @@ use Rattle.burst_bound.specs.declared.answer.BurstAnswer.{BurstAnswer}
 use Rattle.run_course.specs.Changes.{changes_of}
 use Rattle.run_course.specs.Runs.{IsReportOfState, IsTooLong, stints_at}
 use Rattle.run_course.specs.RunText.{run_text}
+use Rattle.tableau_sim.specs.declared.status.Status.{Status}
 use Rattle.tableau_sim.specs.declared.status.Status.TheVariants as status
-use Rattle.tableau_sim.specs.Hosts.{IsHostFault}
 use Rattle.tableau_sim.specs.Outcomes.{CallOutcome}
 use Rattle.tableau_sim.specs.Outcomes.CallOutcome.{Refuses, Writes}
-use Rattle.tableau_sim.specs.Replay.{HasScript, script_section}
-use Rattle.tableau_sim.specs.Sections.{host_section}
+use Rattle.tableau_sim.specs.Plan.{HasNoPlan}
 
 -- The view holds all parts of a board that was started for the course that the events make of the host.
 -- Read as a state it is a whole run of so many rounds that keeps all promises: all cores use one plan in a
@@ -60,34 +51,22 @@ text_of_run rounds mode host events book view report =
 
 -- the lines of the script's bursts before it, if they are asked for
 abbrev pub burst_part : RunMode → Host → List Event → List BurstAnswer → List ℕ
-burst_part Report host events answers = []
-burst_part Trace host events answers = []
 burst_part Burst host events answers = bursts_text host events answers
-burst_part Live host events answers = []
+burst_part mode host events answers = []
 
--- what `run` makes of so many rounds and of these sections in a mode, for a run of this view: a text,
+-- what `run` makes of a host and of a script of it, for so many rounds in a mode and for a run of this view: a text,
 -- or a refusal with its cause
-pub data Runs (rounds : ℕ) (mode : RunMode) (view : View) (sections : List (List ℕ)) : CallOutcome → Type 0 where
-  Ran : (host : Host) (events : List Event) (book : BookView) (report : ReportView) (answers : List BurstAnswer)
-      → HasScript rounds sections host events → IsBookOf host events book
+pub data Runs (rounds : ℕ) (mode : RunMode) (view : View) (host : Host) (events : List Event)
+    (sections : List (List ℕ)) : CallOutcome → Type 0 where
+  Ran : (book : BookView) (report : ReportView) (answers : List BurstAnswer) → IsBookOf host events book
       → RunsWhole rounds host events book.course view
       → ((bound : ℕ) → IsTooLong rounds mode book.course bound → ⊥)
       → IsReportOfState book.course (state_of book.course view) report
       → (mode ≡ Burst → AreBurstAnswers book.course rounds (state_of book.course view) events answers)
-      → Runs rounds mode view sections (Writes (burst_part mode host events answers
+      → Runs rounds mode view host events sections (Writes (burst_part mode host events answers
       ++ text_of_run rounds mode host events book view report))
-  BadHost : (fault : HostFault) → IsHostFault (host_section sections) fault
-      → Runs rounds mode view sections (Refuses (status.Host fault) [])
-  BadScript : (host : Host) (fault : ScriptFault) → IsHostText (host_section sections) host
-      → IsFirstFault (names_of host.vcpus) rounds (statements_of (script_section sections)) fault
-      → Runs rounds mode view sections (Refuses (status.Script fault) [])
-  NoPeriod : (host : Host) (events : List Event) (vcpu : ℕ) → HasScript rounds sections host events
-      → IsFirstWithoutPeriod host vcpu
-      → Runs rounds mode view sections (Refuses (status.NoPeriod vcpu) (names_of host.vcpus))
-  NoRoom : (host : Host) (events : List Event) (vcpu rest : ℕ) (over : List Over)
-      → HasScript rounds sections host events → IsFirstWithoutRoom host vcpu rest over
-      → Runs rounds mode view sections (Refuses (status.NoRoom vcpu rest over) (names_of host.vcpus))
-  TraceTooLong : (host : Host) (events : List Event) (book : BookView) (bound : ℕ)
-      → HasScript rounds sections host events → IsBookOf host events book
+  Unplanned : (refusal : Status) → HasNoPlan [] host refusal
+      → Runs rounds mode view host events sections (Refuses refusal (names_of host.vcpus))
+  TraceTooLong : (book : BookView) (bound : ℕ) → IsBookOf host events book
       → IsTooLong rounds mode book.course bound
-      → Runs rounds mode view sections (Refuses (status.TraceTooLong bound) [])
+      → Runs rounds mode view host events sections (Refuses (status.TraceTooLong bound) [])

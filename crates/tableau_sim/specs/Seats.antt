@@ -16,10 +16,11 @@ use Rattle.run_live.specs.LiveRuns.{RunsSoFar}
 use Rattle.tableau_sim.specs.Commands.{Replies}
 use Rattle.tableau_sim.specs.Frame.{Due}
 use Rattle.tableau_sim.specs.Frame.Due.{LacksMemory}
+use Rattle.tableau_sim.specs.Hosts.{OfHost}
 use Rattle.tableau_sim.specs.Outcomes.{CallOutcome}
 use Rattle.tableau_sim.specs.Outcomes.CallOutcome.{Refuses, Writes}
-use Rattle.tableau_sim.specs.Replay.{HasScript}
 use Rattle.tableau_sim.specs.Run.{Runs, RunsWhole}
+use Rattle.tableau_sim.specs.Scripts.{HasScript, OfScript}
 use Rattle.tableau_sim.specs.Sections.{OfSections}
 use Rattle.tableau_sim.specs.Selftest.{Selftests}
 
@@ -31,7 +32,7 @@ IsStillIfRefused old new (Writes text) = Unit {0}
 -- the commands that start threads, and all others as without a seat
 abbrev pub OnSeat : View → View → Command → List ℕ → CallOutcome → Type 0
 OnSeat old new (command.Run rounds mode) input outcome =
-    OfSections 2 (Runs rounds mode new) input outcome × IsStillIfRefused old new outcome
+    OfSections 2 (OfHost (OfScript rounds (Runs rounds mode new))) input outcome × IsStillIfRefused old new outcome
 OnSeat old new (command.Selftest seed) input outcome =
     Selftests seed new outcome × IsStillIfRefused old new outcome
 OnSeat old new other input outcome = Replies other input outcome × (new ≡ old)

@@ -136,7 +136,7 @@ pub record AnswersWith (R : Command → List ℕ → CallOutcome → Type 0) (Le
     (words : List (List ℕ)) (source source' : SourceView) (sink sink' : SinkView) (told : Status)
     (host : Option Host) : Type 0 where
   pub answers : Answers R Leaves words source source' sink sink' told
-  pub hands : HandsHost R words source source' told host
+  pub hands : HandsHost R Leaves words source source' told host
 
 -- this is the whole input, within the limit
 pub record HasInput (old new : SourceView) (input : List ℕ) : Type 0 where

@@ -25,8 +25,9 @@ use Rattle.tableau_sim.specs.declared.commands.run.Ready.TheVariants as readied
 use Rattle.tableau_sim.specs.declared.status.Status.TheVariants as status
 use Rattle.tableau_sim.specs.Outcomes.{CallOutcome}
 use Rattle.tableau_sim.specs.Outcomes.CallOutcome.{Refuses, Writes}
-use Rattle.tableau_sim.specs.Replay.{HasScript}
-use Rattle.tableau_sim.specs.Run.{RunsWhole, burst_part, text_of_run}
+use Rattle.tableau_sim.specs.Hosts.{OfHost}
+use Rattle.tableau_sim.specs.Run.{Runs, RunsWhole, burst_part, text_of_run}
+use Rattle.tableau_sim.specs.Scripts.{HasScript, OfScript}
 use Rattle.tableau_sim.specs.Selftest.{selftest_line}
 
 -- there is room for the rounds, for the script's events, and for all stints, if they are few enough to be kept
@@ -62,6 +63,10 @@ IsReadyOf rounds mode sections (readied.Beside host events) = (mode ≡ Live) ×
 pub record IsReady (rounds : ℕ) (mode : RunMode) (input : List ℕ) (made : Ready) : Type 0 where
   pub two : length (sections_of input) ≡ 2
   pub of : IsReadyOf rounds mode (sections_of input) made
+
+-- what `run` makes of its sections
+abbrev pub RunsSections : ℕ → RunMode → View → List (List ℕ) → CallOutcome → Type 0
+RunsSections rounds mode view = OfHost (OfScript rounds (Runs rounds mode view))
 
 -- what is before a run: the line of its seed, or the lines of its bursts, if they are asked for
 abbrev pub head_of : Option ℕ → RunMode → Host → List Event → List BurstAnswer → List ℕ

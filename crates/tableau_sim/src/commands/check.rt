@@ -2,6 +2,7 @@ ghost use Rattle.std.specs.Prelude.{◌≡◌, ◌<◌, ◌≤◌, ◌^◌, ℕ,
 ghost use Rattle.tab_words.specs.Sections.{sections_of};
 ghost use Rattle.tableau_sim.specs.declared.input.TheConstants.{INPUT_LIMIT};
 ghost use Rattle.tableau_sim.specs.Check.{Checks};
+ghost use Rattle.tableau_sim.specs.Hosts.{OfHost};
 ghost use Rattle.tableau_sim.specs.Inside.Passing.{IsGoodText};
 ghost use Rattle.tableau_sim.specs.Inside.Reply.{Makes};
 ghost use Rattle.tableau_sim.specs.Sections.{OfSections, host_section};
@@ -20,7 +21,7 @@ use table_check::{RowChecks, first_fault};
 // The reply of `check` to its input.
 pub(crate) fn check_reply(alloc: Global, input: &[u8]) -> Reply
     requires { length input.now ≤ INPUT_LIMIT }
-    ensures { Makes (OfSections 2 Checks input.now) (host_section (sections_of input.now)) result }
+    ensures { Makes (OfSections 2 (OfHost Checks) input.now) (host_section (sections_of input.now)) result }
 {
     match cut(input, 2) {
         Ok(sections) => check_of(alloc, &sections),
@@ -35,7 +36,7 @@ const LONG_TEXT: usize = 400_000;
 fn check_of(alloc: Global, sections: &Sections) -> Reply
     requires two { length sections.now ≡ 2 }
     requires short { (i : ℕ) → length (slice_index_or sections.now i []) < 2 ^ 32 }
-    ensures { Makes (Checks sections.now) (host_section sections.now) result }
+    ensures { Makes (OfHost Checks sections.now) (host_section sections.now) result }
 {
     let host = match host_of(alloc, sections.part(0)) {
         Ok(host) => host,

@@ -1,6 +1,7 @@
 ghost use Rattle.std.specs.Prelude.{◌≡◌, ◌<◌, ◌≤◌, ◌^◌, ℕ, [], length, slice_index_or};
 ghost use Rattle.tab_words.specs.Sections.{sections_of};
 ghost use Rattle.tableau_sim.specs.declared.input.TheConstants.{INPUT_LIMIT};
+ghost use Rattle.tableau_sim.specs.Hosts.{OfHost};
 ghost use Rattle.tableau_sim.specs.Inside.Reply.{Makes};
 ghost use Rattle.tableau_sim.specs.PlanStay.{PlansStaying};
 ghost use Rattle.tableau_sim.specs.Sections.{OfSections, host_section};
@@ -17,7 +18,7 @@ use tab_words::Sections;
 // The reply of `plan stay` to its input.
 pub(crate) fn plan_stay_reply(alloc: Global, input: &[u8]) -> Reply
     requires { length input.now ≤ INPUT_LIMIT }
-    ensures { Makes (OfSections 2 PlansStaying input.now) (host_section (sections_of input.now)) result }
+    ensures { Makes (OfSections 2 (OfHost PlansStaying) input.now) (host_section (sections_of input.now)) result }
 {
     match cut(input, 2) {
         Ok(sections) => plan_stay_of(alloc, &sections),
@@ -28,7 +29,7 @@ pub(crate) fn plan_stay_reply(alloc: Global, input: &[u8]) -> Reply
 fn plan_stay_of(alloc: Global, sections: &Sections) -> Reply
     requires two { length sections.now ≡ 2 }
     requires short { (i : ℕ) → length (slice_index_or sections.now i []) < 2 ^ 32 }
-    ensures { Makes (PlansStaying sections.now) (host_section sections.now) result }
+    ensures { Makes (OfHost PlansStaying sections.now) (host_section sections.now) result }
 {
     let host = match host_of(alloc, sections.part(0)) {
         Ok(host) => host,

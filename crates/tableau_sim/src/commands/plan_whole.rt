@@ -1,6 +1,7 @@
 ghost use Rattle.std.specs.Prelude.{◌≡◌, ◌<◌, ◌≤◌, length};
 ghost use Rattle.tab_words.specs.Sections.{sections_of};
 ghost use Rattle.tableau_sim.specs.declared.input.TheConstants.{INPUT_LIMIT};
+ghost use Rattle.tableau_sim.specs.Hosts.{OfHost};
 ghost use Rattle.tableau_sim.specs.Inside.Reply.{Makes};
 ghost use Rattle.tableau_sim.specs.PlanWhole.{PlansWhole};
 ghost use Rattle.tableau_sim.specs.Sections.{OfSections, host_section};
@@ -18,7 +19,7 @@ use wrap_table::plan_whole;
 // The reply of `plan whole` to its input.
 pub(crate) fn plan_whole_reply(alloc: Global, input: &[u8]) -> Reply
     requires { length input.now ≤ INPUT_LIMIT }
-    ensures { Makes (OfSections 1 PlansWhole input.now) (host_section (sections_of input.now)) result }
+    ensures { Makes (OfSections 1 (OfHost PlansWhole) input.now) (host_section (sections_of input.now)) result }
 {
     match cut(input, 1) {
         Ok(sections) => plan_whole_of::<Brand>(alloc, &sections, Blank::new(1)),
@@ -31,7 +32,7 @@ fn plan_whole_of<L: Ledger>(alloc: Global, sections: &Sections, blank: Blank) ->
     requires one { length sections.now ≡ 1 }
     requires name { blank.name ≡ L.name }
     requires parts { (blank.parts ≡ L.parts) × (0 < L.parts) }
-    ensures { Makes (PlansWhole sections.now) (host_section sections.now) result }
+    ensures { Makes (OfHost PlansWhole sections.now) (host_section sections.now) result }
 {
     let host = match host_of(alloc, sections.part(0)) {
         Ok(host) => host,

@@ -16,9 +16,8 @@ ghost use Rattle.run_course.specs.Inside.Keeping.{IsTraceWithinLimit};
 ghost use Rattle.run_course.specs.RunText.{run_text};
 ghost use Rattle.run_course.specs.Runs.{IsRunWritable, kept_stints};
 ghost use Rattle.tableau_sim.specs.Inside.Reply.{Makes, MakesOnSeat};
-ghost use Rattle.tableau_sim.specs.Inside.Running.{HasBurstRoom, IsPrepared, RunsPrepared, head_of};
-ghost use Rattle.tableau_sim.specs.Replay.{HasScript};
-ghost use Rattle.tableau_sim.specs.Run.{Runs};
+ghost use Rattle.tableau_sim.specs.Inside.Running.{HasBurstRoom, IsPrepared, RunsPrepared, RunsSections, head_of};
+ghost use Rattle.tableau_sim.specs.Scripts.{HasScript};
 ghost use Rattle.tableau_sim.specs.Sections.{host_section};
 
 use crate::commands::selftest::put_seed;
@@ -63,7 +62,7 @@ pub(crate) fn prepare(
     ensures prepared { IfOk result (IsPrepared rounds) }
     ensures parts { IfOk result (λ run. (run.seed ≡ None) × (run.host ≡ host) × (run.script ≡ script)) }
     ensures stop { IfErr result (λ stop. (mode : Mode) (view : ViewValue) (sections : List (List ℕ))
-        → HasScript rounds sections host script → Makes (Runs rounds mode view sections) (host_section sections) (Err stop)) }
+        → HasScript rounds sections host script → Makes (RunsSections rounds mode view sections) (host_section sections) (Err stop)) }
 {
     let book = match make_book(alloc, &host, &script) {
         Ok(book) => book,

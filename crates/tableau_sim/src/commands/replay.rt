@@ -3,8 +3,11 @@ ghost use Rattle.script_doc.specs.Script.{AreInRun, AreWithin};
 ghost use Rattle.script_doc.specs.Steps.{IsStepWithin};
 ghost use Rattle.tab_words.specs.Commands.{IsRoundCount};
 ghost use Rattle.tab_words.specs.Sections.{sections_of};
+ghost use Rattle.host_doc.specs.Document.{IsHostText};
+ghost use Rattle.tableau_sim.specs.Hosts.{OfHost};
 ghost use Rattle.tableau_sim.specs.Inside.Reply.{Makes};
-ghost use Rattle.tableau_sim.specs.Replay.{HasReplayInput, Replays};
+ghost use Rattle.tableau_sim.specs.Replay.{Replays, ReplaysSteps};
+ghost use Rattle.tableau_sim.specs.Scripts.{OfScript};
 ghost use Rattle.tableau_sim.specs.Sections.{OfSections, host_section};
 ghost use Rattle.tableau_sim.specs.declared.input.TheConstants.{INPUT_LIMIT};
 
@@ -23,7 +26,8 @@ use tab_words::Sections;
 pub(crate) fn replay_reply(alloc: Global, rounds: u32, input: &[u8]) -> Reply
     requires within { length input.now ≤ INPUT_LIMIT }
     requires rounds { IsRoundCount rounds }
-    ensures { Makes (OfSections 3 (Replays rounds) input.now) (host_section (sections_of input.now)) result }
+    ensures { Makes (OfSections 3 (OfHost (OfScript rounds (Replays rounds))) input.now)
+        (host_section (sections_of input.now)) result }
 {
     match cut(input, 3) {
         Ok(sections) => replay_of(alloc, rounds, &sections),
@@ -35,7 +39,7 @@ fn replay_of(alloc: Global, rounds: u32, sections: &Sections) -> Reply
     requires three { length sections.now ≡ 3 }
     requires short { (i : ℕ) → length (slice_index_or sections.now i []) < 2 ^ 32 }
     requires rounds { IsRoundCount rounds }
-    ensures { Makes (Replays rounds sections.now) (host_section sections.now) result }
+    ensures { Makes (OfHost (OfScript rounds (Replays rounds)) sections.now) (host_section sections.now) result }
 {
     let (host, script) = match script_of(alloc, rounds, sections) {
         Ok(read) => read,
@@ -55,10 +59,8 @@ fn replay_of_parts(alloc: Global, rounds: u32, host: Host, script: Script, list:
     requires within { AreWithin (length host.vcpus) script }
     requires in_run { AreInRun rounds script }
     requires names { All (IsStepWithin host.cores) list.steps }
-    ensures { (sections : List (List ℕ))
-        → HasReplayInput rounds sections
-        (record { host = host; events = script; steps = list.steps; lines = list.lines })
-        → Makes (Replays rounds sections) (host_section sections) result }
+    ensures { (section : List ℕ) → IsHostText section host
+        → Makes (ReplaysSteps rounds host script list.steps list.lines) section result }
 {
     let book = match make_book(alloc, &host, &script) {
         Ok(book) => book,

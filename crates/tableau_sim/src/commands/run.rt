@@ -7,8 +7,7 @@ ghost use Rattle.round_words.specs.Seats.{view_of, IsSeatOf};
 ghost use Rattle.round_words.specs.Views.{unstarted};
 ghost use Rattle.tab_words.specs.Sections.{sections_of};
 ghost use Rattle.tableau_sim.specs.Inside.Reply.{AnswersWith, IsReadyTo, IsReplyTo, Makes};
-ghost use Rattle.tableau_sim.specs.Inside.Running.{IsReady};
-ghost use Rattle.tableau_sim.specs.Run.{Runs};
+ghost use Rattle.tableau_sim.specs.Inside.Running.{IsReady, RunsSections};
 ghost use Rattle.tableau_sim.specs.Seats.{LeavesSeat, OnSeat};
 ghost use Rattle.tableau_sim.specs.Sections.{OfSections, host_section};
 ghost use Rattle.tableau_sim.specs.declared.input.TheConstants.{INPUT_LIMIT};
@@ -106,7 +105,7 @@ fn ready_for(alloc: Global, rounds: u32, mode: RunMode, input: &[u8]) -> Result<
     requires few { rounds ≤ MAX_ROUNDS }
     ensures ok { IfOk result (IsReady rounds mode input.now) }
     ensures stop { IfErr result (λ stop. (view : ViewValue)
-        → Makes (OfSections 2 (Runs rounds mode view) input.now) (host_section (sections_of input.now)) (Err stop)) }
+        → Makes (OfSections 2 (RunsSections rounds mode view) input.now) (host_section (sections_of input.now)) (Err stop)) }
 {
     let sections = match cut(input, 2) {
         Ok(sections) => sections,

@@ -5,8 +5,8 @@ ghost use Rattle.script_doc.specs.Script.{AreInRun, AreWithin};
 ghost use Rattle.round_words.specs.Seats.{view_of, IsSeatOf};
 ghost use Rattle.round_words.specs.Views.{unstarted};
 ghost use Rattle.tableau_sim.specs.Inside.Reply.{HasItsHost, MakesOnSeat};
-ghost use Rattle.tableau_sim.specs.Replay.{HasScript};
-ghost use Rattle.tableau_sim.specs.Run.{Runs};
+ghost use Rattle.tableau_sim.specs.Inside.Running.{RunsSections};
+ghost use Rattle.tableau_sim.specs.Scripts.{HasScript};
 ghost use Rattle.tableau_sim.specs.Seats.{LeavesRun};
 ghost use Rattle.tableau_sim.specs.Sections.{host_section};
 
@@ -37,7 +37,7 @@ pub(crate) fn run_beside<R: Threads + Wait + Sync, G: Gate>(
     requires opening { view_of seat ≡ unstarted }
     ensures board { IsSeatOf stage.now.board.now result.0 }
     ensures makes { (sections : List (List ℕ)) → HasScript rounds sections host script
-        → MakesOnSeat (Runs rounds Live (view_of result.0) sections)
+        → MakesOnSeat (RunsSections rounds Live (view_of result.0) sections)
         (LeavesRun rounds Live (view_of seat) (view_of result.0) sections) (view_of seat) (view_of result.0) result.1 }
     ensures host { (sections : List (List ℕ)) → HasScript rounds sections host script
         → HasItsHost (host_section sections) result.1 }

@@ -1,8 +1,10 @@
-use Rattle.std.proofs.Common.{List, Err, ap, subst, sym, ◌∙◌, arith}
+use Rattle.std.proofs.Common.{List, [], Err, ap, subst, sym, ◌∙◌, arith}
 use Rattle.run_course.specs.Changes.{changes_of}
 use Rattle.script_doc.specs.declared.event.Event.{Event}
 use Rattle.tableau_sim.specs.Inside.Reply.{Makes}
+use Rattle.tableau_sim.specs.Inside.Running.{RunsSections}
 use Rattle.tableau_sim.specs.Run.{Runs}
+use Rattle.tableau_sim.proofs.RunLemmas.{run_of_script}
 use Rattle.tableau_sim.specs.Sections.{host_section}
 use Rattle.tableau_sim.specs.declared.reply.Stop.{Stop}
 use Rattle.tableau_sim.proofs.StopsLemmas.{plan_stopped}
@@ -10,11 +12,13 @@ use Rattle.tableau_sim.proofs.commands.prepared.prepare.Goals as goal
 
 pub returns-in-Err-clause-stop : goal.returns-in-Err-clause-stop
 returns-in-Err-clause-stop c = λ mode view sections script.
-    subst (λ (why : Stop). Makes (Runs c.args.rounds mode view sections) (host_section sections) (Err why)) (sym c.stop_of_plan.ensures)
-    (plan_stopped (Runs c.args.rounds mode view sections) (host_section sections) c.args.host c.in-Err.fault script.is_host
-    (λ vcpu e. Runs.NoPeriod c.args.host c.args.script vcpu script (c.in-Err.ensures.no_period vcpu (ap Err e)))
-    (λ vcpu rest over e. Runs.NoRoom c.args.host c.args.script vcpu rest over script
-    (c.in-Err.ensures.no_room vcpu rest over (ap Err e))))
+    let P = RunsSections c.args.rounds mode view sections in
+    subst (λ (why : Stop). Makes P (host_section sections) (Err why)) (sym c.stop_of_plan.ensures)
+    (plan_stopped P (host_section sections) [] c.args.host c.in-Err.fault script.is_host
+    (λ vcpu e. c.in-Err.ensures.no_period vcpu (ap Err e))
+    (λ vcpu rest over e. c.in-Err.ensures.no_room vcpu rest over (ap Err e))
+    (λ refusal lacks. run_of_script c.args.rounds mode view sections c.args.host c.args.script _ script
+    (Runs.Unplanned refusal lacks)))
 
 pub returns-clause-prepared : goal.returns-clause-prepared
 returns-clause-prepared c = record {

@@ -1,22 +1,20 @@
-use Rattle.std.proofs.Common.{ap, length, subst, sym, ◌∙◌, Err, ◌<◌}
+use Rattle.std.proofs.Common.{[], ap, length, subst, sym, ◌∙◌, Err, ◌<◌}
 use Rattle.std.proofs.lemmas.Option.{slice_get-get_or}
 use Rattle.table_form.specs.Running.Courses.{CourseView}
 use Rattle.run_promises.proofs.PromiseLemmas.{promised}
 use Rattle.step_machine.specs.Refusals.{IsFaultOf, IsRefused}
-use Rattle.tableau_sim.specs.Replay.{Replays}
+use Rattle.tableau_sim.specs.Replay.{ReplaysSteps}
 use Rattle.plan_promises.proofs.RunsLemmas.{run_keeps}
 use Rattle.step_machine.proofs.GivenSteps.{each_names_core, place_in}
-use Rattle.tableau_sim.specs.Sections.{host_section}
 use Rattle.tableau_sim.proofs.StopsLemmas.{plan_stopped}
 use Rattle.tableau_sim.proofs.commands.replay.replay_of_parts.Goals as goal
 
 pub returns-in-Err : goal.returns-in-Err
-returns-in-Err c = λ sections read.
+returns-in-Err c = λ section is.
     rw c.stop_of_plan.ensures
-    (plan_stopped (Replays c.args.rounds sections) (host_section sections) c.args.host c.in-Err.fault read.script.is_host
-    (λ vcpu e. Replays.NoPeriod _ vcpu read (c.in-Err.ensures.no_period vcpu (ap Err e)))
-    (λ vcpu rest over e. Replays.NoRoom _ vcpu rest over read
-    (c.in-Err.ensures.no_room vcpu rest over (ap Err e))))
+    (plan_stopped (ReplaysSteps c.args.rounds c.args.host c.args.script c.args.list.steps c.args.list.lines) section []
+    c.args.host c.in-Err.fault is (λ vcpu e. c.in-Err.ensures.no_period vcpu (ap Err e))
+    (λ vcpu rest over e. c.in-Err.ensures.no_room vcpu rest over (ap Err e)) ReplaysSteps.Unplanned)
 
 pub replay-requires-clause-names : goal.replay-requires-clause-names
 replay-requires-clause-names c = λ k taken at.
@@ -25,14 +23,14 @@ replay-requires-clause-names c = λ k taken at.
     c.requires.names k taken (rw c.items.ensures at at)
 
 pub returns-in-Ok-replay : goal.returns-in-Ok-replay
-returns-in-Ok-replay c = λ sections read.
+returns-in-Ok-replay c = λ section is.
     let of = c.in-Ok.ensures.ok.course in
     let world = c.in-Ok-replay.world in
     let kept = rw c.course.ensures at c.in-Ok-replay.ensures.kept in
     let course_kept = rw c.course.ensures at c.in-Ok-replay.ensures.course_kept in
     let promises = promised c.in-Ok.book.course c.args.rounds world.state course_kept kept in
     rw (c.into_trace-trace.ensures.made, c.into_trace-trace.ensures.posted) (
-      Replays.Replayed _ c.in-Ok.book.course world.state world.made read (record {
+      ReplaysSteps.Replayed c.in-Ok.book.course world.state world.made (record {
         course_is = of;
         leads = rw (c.course.ensures, c.items.ensures) at c.in-Ok-replay.ensures.ok;
         course_kept = course_kept;
@@ -56,7 +54,7 @@ bounds-items-place c =
     refused
 
 pub returns-in-Err-Refused : goal.returns-in-Err-Refused
-returns-in-Err-Refused c = λ sections read.
+returns-in-Err-Refused c = λ section is.
     let given : IsRefused c.course.result.now c.args.rounds c.items.result.now c.in-Err-Refused.place
     c.in-Err-Refused.answer =
     subst (IsFaultOf c.course.result.now c.args.rounds c.items.result.now) c.in-Err-Refused.field-0-is
@@ -67,14 +65,13 @@ returns-in-Err-Refused c = λ sections read.
     place_in c.in-Ok.book.course c.args.rounds c.args.list.steps c.args.list.lines c.in-Err-Refused.place
     c.in-Err-Refused.answer c.args.list.one_line_each refused in
     rw (c.stopped.ensures, c.items-in-Err-Refused.ensures) (
-      Replays.StepRefused _ _ c.in-Err-Refused.answer read (record {
-        course = c.in-Ok.book.course;
-        course_is = c.in-Ok.ensures.ok.course;
-        course_kept = rw c.course.ensures at (c.in-Err-Refused.ensures.refused_course c.in-Err-Refused.place
-            c.in-Err-Refused.answer (ap Err c.in-Err-Refused.field-0-is));
-        place = c.in-Err-Refused.place;
-        on_line = slice_get-get_or c.args.list.lines c.in-Err-Refused.place 0 low;
-        refused = refused;
-      }),
+      ReplaysSteps.StepRefused c.in-Err-Refused.place _ c.in-Err-Refused.answer
+          (slice_get-get_or c.args.list.lines c.in-Err-Refused.place 0 low) (record {
+            course = c.in-Ok.book.course;
+            course_is = c.in-Ok.ensures.ok.course;
+            course_kept = rw c.course.ensures at (c.in-Err-Refused.ensures.refused_course c.in-Err-Refused.place
+                c.in-Err-Refused.answer (ap Err c.in-Err-Refused.field-0-is));
+            refused = refused;
+          }),
       tt {0},
     )

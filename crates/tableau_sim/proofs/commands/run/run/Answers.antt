@@ -2,8 +2,7 @@ use Rattle.std.proofs.Common.{Err, ◌≡◌, subst}
 use Rattle.tab_words.specs.declared.command.RunMode.TheVariants.{Live}
 use Rattle.tab_words.specs.Sections.{sections_of}
 use Rattle.tableau_sim.specs.Inside.Reply.{IsReadyTo}
-use Rattle.tableau_sim.specs.Inside.Running.{RunsPrepared}
-use Rattle.tableau_sim.specs.Run.{Runs}
+use Rattle.tableau_sim.specs.Inside.Running.{RunsPrepared, RunsSections}
 use Rattle.tableau_sim.specs.Seats.{LeavesRun, LeavesSeat, OnSeat}
 use Rattle.tableau_sim.specs.Sections.{host_section}
 use Rattle.tableau_sim.specs.declared.commands.run.Ready.TheVariants as readied
@@ -65,7 +64,7 @@ write_reply-status-requires-in-Ok-Beside g c =
     let sections = sections_of ready.input in
     let old = c.args.seat.view in
     let new = c.run_beside-seat.result.0.view in
-    can_be_written (Runs c.args.rounds Live new sections) (LeavesRun c.args.rounds Live old new sections) old new
+    can_be_written (RunsSections c.args.rounds Live new sections) (LeavesRun c.args.rounds Live old new sections) old new
     c.run_beside-seat.result.1 (c.run_beside-seat.ensures.makes sections ready.is.of.3)
 
 pub returns-in-Ok-Beside-clause-answers : goal.returns-in-Ok-Beside-clause-answers
