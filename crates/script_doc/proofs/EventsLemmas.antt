@@ -1,8 +1,11 @@
--- A line states one event at most, and none where a name of it is no vCPU's.
-use Rattle.std.proofs.Common.{◌≡◌, inl, inr, ℕ, zero, suc, ◌<◌, ◌≤◌, List, [], ◌∷◌, length, decimal, flat_map, map, Some, slice_get, refl, sym, ap, ◌∙◌, arith}
+-- A line states one event at most, and none where a name of it is no vCPU's. The grammar of lines as they are read
+-- states the same events.
+use Rattle.std.proofs.Common.{◌≡◌, inl, inr, ℕ, zero, suc, ◌<◌, ◌≤◌, List, [], ◌∷◌, ◌++◌, append_assoc, length, length-append, subst, codes, decimal, flat_map, map, Some, slice_get, refl, sym, ap, ◌∙◌, arith}
 use Rattle.std.proofs.lemmas.Fmt.{decimal_injective}
 use Rattle.std.proofs.lemmas.List.{length-map}
-use Rattle.std.proofs.lemmas.List.Elements.{All-head, All-tail}
+use Rattle.std.proofs.lemmas.List.Elements.{All-cons, All-head, All-tail}
+use Rattle.std.specs.List.{All}
+use Rattle.tab_core.specs.Name.{IsName}
 use Rattle.tab_core.proofs.Alike.{same_reservation}
 use Rattle.tab_core.specs.Edits.{AreEditsOf, vcpu_of}
 use Rattle.tab_core.specs.Vcpus.{HaveDistinctNames}
@@ -12,8 +15,8 @@ use Rattle.tab_core.specs.declared.vcpu.Vcpu.{Vcpu}
 use Rattle.tab_words.proofs.CommandLemmas.{other_word}
 use Rattle.vcpu_names.specs.Names.{IsUnknown, name_at, names_of}
 use Rattle.script_doc.specs.declared.event.TheConstants.{MAX_WORK}
-use Rattle.script_doc.specs.EventLines.{IsGoodAct, NamedAct, NamedEdit, act_words, blocks, bursts, changes, edit_words, leaves, sets, wakes}
-use Rattle.script_doc.specs.Events.{HasUnknown, HasUnknownEdit, IsActWithin, IsEvent, IsUnknownLine, named_act, named_edit}
+use Rattle.script_doc.specs.Events.{IsActWithin, IsEvent, IsGoodAct, IsNamed, IsNoLine, IsUnknownLine, act_words, edit_words}
+use Rattle.script_doc.specs.Inside.NamedLines.{blocks, bursts, changes, edit_name, HasUnknown, HasUnknownEdit, IsGoodNamedAct, IsGoodNamedEdit, IsNamedEvent, IsNoNamedLine, IsUnknownNamedLine, leaves, named_act, named_act_words, named_edit, named_edit_words, NamedAct, NamedEdit, sets, wakes}
 use Rattle.script_doc.specs.declared.event.Act.{Act}
 use Rattle.script_doc.specs.declared.event.Act.TheVariants.{Wake, Block, Change, Burst}
 use Rattle.script_doc.specs.declared.event.Event.{Event}
@@ -58,7 +61,7 @@ known_name names name vcpu unknown within same = unknown vcpu within (sym same)
 -- edits of vCPUs are not written as edits with an unknown name
 known_edits : (names : List (List ℕ)) (named : List NamedEdit) (edits : List Edit)
     → HasUnknownEdit names named → AreEditsOf (length names) edits
-    → flat_map edit_words named ≡ flat_map edit_words (map (named_edit names) edits) → ⊥
+    → flat_map named_edit_words named ≡ flat_map named_edit_words (map (named_edit names) edits) → ⊥
 known_edits names [] edits unknown within same = unknown
 known_edits names (sets n s l ∷ named) [] unknown within same = absurd (cc)
 known_edits names (leaves n ∷ named) [] unknown within same = absurd (cc)
@@ -69,7 +72,7 @@ known_edits names (sets n s l ∷ named) (Set v r ∷ edits) (inl unknown) withi
     known_name names n v unknown (All-head (λ (e : Edit). vcpu_of e < length names)
     (Set v r) edits within) name
 known_edits names (sets n s l ∷ named) (Set v r ∷ edits) (inr unknown) within same =
-    let rest : flat_map edit_words named ≡ flat_map edit_words (map (named_edit names) edits) = cc in
+    let rest : flat_map named_edit_words named ≡ flat_map named_edit_words (map (named_edit names) edits) = cc in
     known_edits names named edits unknown
     (All-tail (λ (e : Edit). vcpu_of e < length names) (Set v r) edits within) rest
 known_edits names (leaves n ∷ named) (Leave v ∷ edits) (inl unknown) within same =
@@ -77,13 +80,13 @@ known_edits names (leaves n ∷ named) (Leave v ∷ edits) (inl unknown) within 
     known_name names n v unknown (All-head (λ (e : Edit). vcpu_of e < length names)
     (Leave v) edits within) name
 known_edits names (leaves n ∷ named) (Leave v ∷ edits) (inr unknown) within same =
-    let rest : flat_map edit_words named ≡ flat_map edit_words (map (named_edit names) edits) = cc in
+    let rest : flat_map named_edit_words named ≡ flat_map named_edit_words (map (named_edit names) edits) = cc in
     known_edits names named edits unknown
     (All-tail (λ (e : Edit). vcpu_of e < length names) (Leave v) edits within) rest
 
 -- an act of known vCPUs isn't written with an unknown name
 known_act : (names : List (List ℕ)) (named : NamedAct) (act : Act) → HasUnknown names named
-    → IsActWithin (length names) act → act_words named ≡ act_words (named_act names act) → ⊥
+    → IsActWithin (length names) act → named_act_words named ≡ named_act_words (named_act names act) → ⊥
 known_act names (wakes n) (Wake v) unknown within same =
     (let name : n ≡ name_at names v = cc in known_name names n v unknown within name)
 known_act names (wakes n) (Block v) unknown within same = other_word _ _ refl same
@@ -98,7 +101,7 @@ known_act names (changes named) (Wake v) unknown within same = other_word _ _ re
 known_act names (changes named) (Block v) unknown within same = other_word _ _ refl same
 known_act names (changes named) (Burst v w) unknown within same = other_word _ _ refl same
 known_act names (changes named) (Change edits) unknown within same =
-    let rest : flat_map edit_words named ≡ flat_map edit_words (map (named_edit names) edits) = cc in
+    let rest : flat_map named_edit_words named ≡ flat_map named_edit_words (map (named_edit names) edits) = cc in
     known_edits names named edits unknown within rest
 known_act names (bursts n u) (Wake v) unknown within same = other_word _ _ refl same
 known_act names (bursts n u) (Block v) unknown within same = other_word _ _ refl same
@@ -107,20 +110,119 @@ known_act names (bursts n u) (Burst v w) unknown within same =
     (let name : n ≡ name_at names v = cc in known_name names n v unknown within name)
 
 -- a line of an unknown name states no event
-pub known_line : (names words : List (List ℕ)) (event : Event) → IsUnknownLine names words
-    → IsEvent names words event → ⊥
+pub known_line : (names words : List (List ℕ)) (event : Event) → IsUnknownNamedLine names words
+    → IsNamedEvent names words event → ⊥
 known_line names words event unknown is =
     let written = unknown.line.written in
     let other = is.line.written in
-    let same : act_words unknown.act ≡ act_words (named_act names event.act) = cc in
+    let same : named_act_words unknown.act ≡ named_act_words (named_act names event.act) = cc in
     known_act names unknown.act event.act unknown.unknown is.within same
+
+-- ---- the two forms of an event
+
+-- edits are written alike in both forms
+both_edits : (names : List (List ℕ)) (edits : List Edit)
+    → flat_map (edit_words names) edits ≡ flat_map named_edit_words (map (named_edit names) edits)
+both_edits names [] = refl
+both_edits names (Set v r ∷ edits) = ap (λ ws. edit_words names (Set v r) ++ ws) (both_edits names edits)
+both_edits names (Leave v ∷ edits) = ap (λ ws. edit_words names (Leave v) ++ ws) (both_edits names edits)
+
+-- what happens is written alike in both forms
+both_acts : (names : List (List ℕ)) (act : Act) → act_words names act ≡ named_act_words (named_act names act)
+both_acts names (Wake v) = refl
+both_acts names (Block v) = refl
+both_acts names (Change edits) = ap (λ ws. codes "change" ∷ ws) (both_edits names edits)
+both_acts names (Burst v work) = refl
+
+-- an edit of a vCPU with a name is good
+good_edit : (names : List (List ℕ)) (edit : Edit) → IsNamed names (vcpu_of edit)
+    → IsGoodNamedEdit (named_edit names edit)
+good_edit names (Set v r) named = (named.1, r.shares, r.whole, r.bounded)
+good_edit names (Leave v) named = named.1
+
+-- edits of vCPUs with names are good
+good_edits : (names : List (List ℕ)) (edits : List Edit) → All (λ edit. IsNamed names (vcpu_of edit)) edits
+    → All IsGoodNamedEdit (map (named_edit names) edits)
+good_edits names [] named = λ k d low. absurd (omega arith)
+good_edits names (edit ∷ edits) named =
+    let P : Edit → Type 0 = λ e. IsNamed names (vcpu_of e) in
+    All-cons IsGoodNamedEdit (named_edit names edit) (map (named_edit names) edits)
+    (good_edit names edit (All-head P edit edits named)) (good_edits names edits (All-tail P edit edits named))
+
+-- the name of a good edit has the form of names
+good_name : (names : List (List ℕ)) (edit : Edit) → IsGoodNamedEdit (named_edit names edit)
+    → IsName (name_at names (vcpu_of edit))
+good_name names (Set v r) good = good.0
+good_name names (Leave v) good = good
+
+-- good edits of vCPUs are of vCPUs with names
+named_edits : (names : List (List ℕ)) (edits : List Edit) → All IsGoodNamedEdit (map (named_edit names) edits)
+    → AreEditsOf (length names) edits → All (λ edit. IsNamed names (vcpu_of edit)) edits
+named_edits names [] good within = λ k d low. absurd (omega arith)
+named_edits names (edit ∷ edits) good within =
+    let P : Edit → Type 0 = λ e. vcpu_of e < length names in
+    let more = map (named_edit names) edits in
+    All-cons (λ e. IsNamed names (vcpu_of e)) edit edits (
+      All-head P edit edits within,
+      good_name names edit (All-head IsGoodNamedEdit (named_edit names edit) more good),
+    )
+    (named_edits names edits (All-tail IsGoodNamedEdit (named_edit names edit) more good)
+    (All-tail P edit edits within))
+
+-- good acts are good in the form that is read
+good_act : (names : List (List ℕ)) (act : Act) → IsGoodAct names act
+    → IsGoodNamedAct (named_act names act) × IsActWithin (length names) act
+good_act names (Wake v) good = (good.1, good.0)
+good_act names (Block v) good = (good.1, good.0)
+good_act names (Change edits) good = (
+  (
+    (let some = good.0 in let size = length-map edits (named_edit names) in omega (arith, some, size)),
+    good_edits names edits good.1,
+  ),
+  λ k d low. (good.1 k d low).0,
+)
+good_act names (Burst v work) good = ((good.0.1, good.1, good.2), good.0.0)
+
+-- acts that are good in the form that is read are good
+named_good : (names : List (List ℕ)) (act : Act) → IsGoodNamedAct (named_act names act)
+    → IsActWithin (length names) act → IsGoodAct names act
+named_good names (Wake v) good within = (within, good)
+named_good names (Block v) good within = (within, good)
+named_good names (Change edits) good within = (
+  (let some = good.0 in let size = length-map edits (named_edit names) in omega (arith, some, size)),
+  named_edits names edits good.1 within,
+)
+named_good names (Burst v work) good within = ((within, good.0), good.1, good.2)
+
+-- an event is one as it is read
+pub as_named : (names words : List (List ℕ)) (event : Event) → IsEvent names words event
+    → IsNamedEvent names words event
+as_named names words event is =
+    let good = good_act names event.act is.good in
+    record {
+      line = record {
+        written = is.written ∙ ap (λ ws. decimal event.tick ∷ ws) (both_acts names event.act);
+        short = is.short;
+        good = good.0;
+      };
+      within = good.1;
+    }
+
+-- what is read as an event is one
+pub of_named : (names words : List (List ℕ)) (event : Event) → IsNamedEvent names words event
+    → IsEvent names words event
+of_named names words event is = record {
+  written = is.line.written ∙ ap (λ ws. decimal event.tick ∷ ws) (sym (both_acts names event.act));
+  short = is.line.short;
+  good = named_good names event.act is.line.good is.within;
+}
 
 -- ---- one event
 
 -- lists of edits that are written alike are one
 one_edits : (names : List (List ℕ)) (us ws : List Edit) → AreDistinct names
     → AreEditsOf (length names) us → AreEditsOf (length names) ws
-    → flat_map edit_words (map (named_edit names) us) ≡ flat_map edit_words (map (named_edit names) ws)
+    → flat_map named_edit_words (map (named_edit names) us) ≡ flat_map named_edit_words (map (named_edit names) ws)
     → us ≡ ws
 one_edits names [] [] distinct within also same = refl
 one_edits names [] (Set w s ∷ ws) distinct within also same = absurd (cc)
@@ -134,8 +236,8 @@ one_edits names (Set v r ∷ us) (Set w s ∷ ws) distinct within also same =
     let name : name_at names v ≡ name_at names w = cc in
     let shares : decimal r.share_ppm ≡ decimal s.share_ppm = cc in
     let latencies : decimal r.latency_ns ≡ decimal s.latency_ns = cc in
-    let rest : flat_map edit_words (map (named_edit names) us)
-    ≡ flat_map edit_words (map (named_edit names) ws) = cc in
+    let rest : flat_map named_edit_words (map (named_edit names) us)
+    ≡ flat_map named_edit_words (map (named_edit names) ws) = cc in
     let vcpu : v ≡ w = distinct.one v w (All-head P (Set v r) us within) (All-head P (Set w s) ws also) name in
     let share : r.share_ppm ≡ s.share_ppm =
     decimal_injective r.share_ppm s.share_ppm (omega arith) (omega arith) shares in
@@ -148,8 +250,8 @@ one_edits names (Set v r ∷ us) (Set w s ∷ ws) distinct within also same =
 one_edits names (Leave v ∷ us) (Leave w ∷ ws) distinct within also same =
     let P : Edit → Type 0 = λ (e : Edit). vcpu_of e < length names in
     let name : name_at names v ≡ name_at names w = cc in
-    let rest : flat_map edit_words (map (named_edit names) us)
-    ≡ flat_map edit_words (map (named_edit names) ws) = cc in
+    let rest : flat_map named_edit_words (map (named_edit names) us)
+    ≡ flat_map named_edit_words (map (named_edit names) ws) = cc in
     let vcpu : v ≡ w = distinct.one v w (All-head P (Leave v) us within) (All-head P (Leave w) ws also) name in
     let more : us ≡ ws =
     one_edits names us ws distinct (All-tail P (Leave v) us within) (All-tail P (Leave w) ws also) rest in
@@ -157,15 +259,15 @@ one_edits names (Leave v ∷ us) (Leave w ∷ ws) distinct within also same =
 
 -- what is written alike is one
 one_act : (names : List (List ℕ)) (a b : Act) → AreDistinct names → IsActWithin (length names) a
-    → IsActWithin (length names) b → IsGoodAct (named_act names a) → IsGoodAct (named_act names b)
-    → act_words (named_act names a) ≡ act_words (named_act names b) → a ≡ b
+    → IsActWithin (length names) b → IsGoodNamedAct (named_act names a) → IsGoodNamedAct (named_act names b)
+    → named_act_words (named_act names a) ≡ named_act_words (named_act names b) → a ≡ b
 one_act names (Wake v) (Wake w) distinct within also good fine same =
     (let name : name_at names v ≡ name_at names w = cc in ap Wake (distinct.one v w within also name))
 one_act names (Block v) (Block w) distinct within also good fine same =
     (let name : name_at names v ≡ name_at names w = cc in ap Block (distinct.one v w within also name))
 one_act names (Change us) (Change ws) distinct within also good fine same =
-    let rest : flat_map edit_words (map (named_edit names) us)
-    ≡ flat_map edit_words (map (named_edit names) ws) = cc in
+    let rest : flat_map named_edit_words (map (named_edit names) us)
+    ≡ flat_map named_edit_words (map (named_edit names) ws) = cc in
     ap Change (one_edits names us ws distinct within also rest)
 one_act names (Burst v a) (Burst w b) distinct within also good fine same =
     let name : name_at names v ≡ name_at names w = cc in
@@ -197,12 +299,152 @@ same_event a b tick act =
 -- a line states one event at most
 pub one_event : (names words : List (List ℕ)) (a b : Event) → AreDistinct names → IsEvent names words a
     → IsEvent names words b → a ≡ b
-one_event names words a b distinct of_a of_b =
+one_event names words a b distinct is also =
+    let of_a = as_named names words a is in
+    let of_b = as_named names words b also in
     let written = of_a.line.written in
     let other = of_b.line.written in
     let first : decimal a.tick ≡ decimal b.tick = cc in
-    let rest : act_words (named_act names a.act) ≡ act_words (named_act names b.act) = cc in
+    let rest : named_act_words (named_act names a.act) ≡ named_act_words (named_act names b.act) = cc in
     same_event a b
     (decimal_injective a.tick b.tick (let short = of_a.line.short in omega arith)
     (let short = of_b.line.short in omega arith) first)
     (one_act names a.act b.act distinct of_a.within of_b.within of_a.line.good of_b.line.good rest)
+
+-- ---- lines as they are read
+
+-- a line that is read as no event states none
+pub no_line : (words : List (List ℕ)) → IsNoNamedLine words → IsNoLine words
+no_line words none names event is = none event.tick (named_act names event.act) (as_named names words event is).line
+
+-- the names of edits
+abbrev names_in : List NamedEdit → List (List ℕ)
+names_in edits = map edit_name edits
+
+-- the edit of the vCPU of this number
+abbrev numbered_edit : (k : ℕ) (edit : NamedEdit) → IsGoodNamedEdit edit → Edit
+numbered_edit k (sets name share latency) good = Set k (record {
+  share_ppm = share;
+  latency_ns = latency;
+  shares = good.1;
+  whole = good.2;
+  bounded = good.3;
+})
+numbered_edit k (leaves name) good = Leave k
+
+-- the edits of the vCPUs of these numbers and up
+abbrev numbered : (k : ℕ) (edits : List NamedEdit) → All IsGoodNamedEdit edits → List Edit
+numbered k [] good = []
+numbered k (edit ∷ edits) good =
+    numbered_edit k edit (All-head IsGoodNamedEdit edit edits good)
+    ∷ numbered (suc k) edits (All-tail IsGoodNamedEdit edit edits good)
+
+-- a name in the middle of names is that of its number
+name_between : (front : List (List ℕ)) (name : List ℕ) (back : List (List ℕ))
+    → name_at (front ++ name ∷ back) (length front) ≡ name
+name_between [] name back = refl
+name_between (first ∷ front) name back = name_between front name back
+
+-- an edit of the number of its name is written as it is
+numbered_words : (front back : List (List ℕ)) (edit : NamedEdit) (good : IsGoodNamedEdit edit)
+    → edit_words (front ++ edit_name edit ∷ back) (numbered_edit (length front) edit good) ≡ named_edit_words edit
+numbered_words front back (sets name share latency) good =
+    ap (λ n. codes "set" ∷ n ∷ decimal share ∷ decimal latency ∷ []) (name_between front name back)
+numbered_words front back (leaves name) good =
+    ap (λ n. codes "leave" ∷ n ∷ []) (name_between front name back)
+
+-- the name of a good edit has the form of names
+name_of_good : (edit : NamedEdit) → IsGoodNamedEdit edit → IsName (edit_name edit)
+name_of_good (sets name share latency) good = good.0
+name_of_good (leaves name) good = good
+
+-- the vCPU of an edit with a number
+numbered_vcpu : (k : ℕ) (edit : NamedEdit) (good : IsGoodNamedEdit edit) → vcpu_of (numbered_edit k edit good) ≡ k
+numbered_vcpu k (sets name share latency) good = refl
+numbered_vcpu k (leaves name) good = refl
+
+-- what edits say if their names are those of vCPUs, by number
+record AreNumbered (names : List (List ℕ)) (k : ℕ) (edits : List NamedEdit) (good : All IsGoodNamedEdit edits)
+    : Type 0 where
+  words : flat_map (edit_words names) (numbered k edits good) ≡ flat_map named_edit_words edits
+  named : All (λ edit. IsNamed names (vcpu_of edit)) (numbered k edits good)
+  size : length (numbered k edits good) ≡ length edits
+
+-- edits say so with their own names
+are_numbered : (front : List (List ℕ)) (edits : List NamedEdit) (good : All IsGoodNamedEdit edits)
+    → AreNumbered (front ++ names_in edits) (length front) edits good
+are_numbered front [] good = record { words = refl; named = λ k d low. absurd (omega arith); size = refl }
+are_numbered front (edit ∷ edits) good =
+    let names = front ++ edit_name edit ∷ names_in edits in
+    let first = All-head IsGoodNamedEdit edit edits good in
+    let others = All-tail IsGoodNamedEdit edit edits good in
+    let here = numbered_edit (length front) edit first in
+    let size = length-append front (edit_name edit ∷ []) in
+    let rest : AreNumbered names (suc (length front)) edits others =
+    subst (λ n. AreNumbered names n edits others) (omega (arith, size))
+    (subst (λ ns. AreNumbered ns (length (front ++ edit_name edit ∷ [])) edits others)
+    (append_assoc front (edit_name edit ∷ []) (names_in edits))
+    (are_numbered (front ++ edit_name edit ∷ []) edits others)) in
+    record {
+      words = ap (λ ws. ws ++ flat_map (edit_words names) (numbered (suc (length front)) edits others))
+          (numbered_words front (names_in edits) edit first)
+          ∙ ap (λ ws. named_edit_words edit ++ ws) rest.words;
+      named = All-cons (λ e. IsNamed names (vcpu_of e)) here (numbered (suc (length front)) edits others)
+          (rw (numbered_vcpu (length front) edit first) (
+            (let all = length-append front (edit_name edit ∷ names_in edits) in omega (arith, all)),
+            subst IsName (sym (name_between front (edit_name edit) (names_in edits))) (name_of_good edit first),
+          )) rest.named;
+      size = ap suc rest.size;
+    }
+
+-- the names and the act of vCPUs of these names, as a line says it
+record IsNumbered (named : NamedAct) : Type 0 where
+  names : List (List ℕ)
+  act : Act
+  words : act_words names act ≡ named_act_words named
+  good : IsGoodAct names act
+
+-- each line that can be read is that of an event for its own names
+is_numbered : (named : NamedAct) → IsGoodNamedAct named → IsNumbered named
+is_numbered (wakes name) good = record {
+  names = name ∷ [];
+  act = Wake 0;
+  words = refl;
+  good = (omega arith, good);
+}
+is_numbered (blocks name) good = record {
+  names = name ∷ [];
+  act = Block 0;
+  words = refl;
+  good = (omega arith, good);
+}
+is_numbered (bursts name work) good = record {
+  names = name ∷ [];
+  act = Burst 0 work;
+  words = refl;
+  good = ((omega arith, good.0), good.1, good.2);
+}
+is_numbered (changes edits) good =
+    let are = are_numbered [] edits good.1 in
+    let some = good.0 in
+    record {
+      names = names_in edits;
+      act = Change (numbered 0 edits good.1);
+      words = ap (λ ws. codes "change" ∷ ws) are.words;
+      good = (omega (arith, are.size, some), are.named);
+    }
+
+-- a line that is read with an unknown name is one for other names
+pub unknown_line : (names words : List (List ℕ)) → IsUnknownNamedLine names words → IsUnknownLine names words
+unknown_line names words is =
+    let own = is_numbered is.act is.line.good in
+    record {
+      others = own.names;
+      event = record { tick = is.tick; act = own.act };
+      line = record {
+        written = is.line.written ∙ ap (λ ws. decimal is.tick ∷ ws) (sym own.words);
+        short = is.line.short;
+        good = own.good;
+      };
+      unknown = λ event of. known_line names words event is (as_named names words event of);
+    }

@@ -6,14 +6,14 @@ use Rattle.std.specs.List.{All}
 use Rattle.tab_core.specs.declared.TheConstants.{MAX_CHANGES, MAX_EVENTS, ROUND}
 use Rattle.tab_core.specs.declared.vcpu.Vcpu.{Vcpu}
 use Rattle.vcpu_names.specs.Names.{names_of}
-use Rattle.script_doc.specs.Events.{IsEvent, is_change, named_act}
+use Rattle.script_doc.specs.Events.{IsEvent, is_change}
 use Rattle.script_doc.specs.Script.{AreEvents, AreInRun, AreWithin, IsScript, NeverFall, changes_in}
 use Rattle.script_doc.specs.ScriptFaults.{HasFault, IsBad, NamesNobody, BreaksLimit, IsFirstFault, broken_limit, last_tick, left_by}
 use Rattle.script_doc.specs.Statements.{Statement}
 use Rattle.script_doc.specs.declared.event.Event.{Event}
 use Rattle.script_doc.specs.declared.script_fault.ScriptFault.{ScriptFault}
 use Rattle.script_doc.specs.declared.script_fault.ScriptFault.TheVariants.{NoMemory}
-use Rattle.script_doc.proofs.EventsLemmas.{AreDistinct, known_line, one_event}
+use Rattle.script_doc.proofs.EventsLemmas.{AreDistinct, one_event}
 use Rattle.script_doc.proofs.ScriptLemmas.{IsInLimits, script_within, unbroken}
 use Rattle.script_doc.proofs.StatementLemmas.{splits}
 
@@ -143,11 +143,11 @@ fault_or_event : (names : List (List ℕ)) (rounds : ℕ) (front : List Statemen
     → HasFault names rounds others statement fault → ⊥
 fault_or_event names rounds front statement back events others fault distinct script are (IsBad none) =
     let split = split_at names front statement back events script.each in
-    none split.event.tick (named_act names split.event.act) split.is.line
+    none names split.event split.is
 fault_or_event names rounds front statement back events others fault distinct script are
     (NamesNobody unknown) =
     let split = split_at names front statement back events script.each in
-    known_line names statement.words split.event unknown split.is
+    unknown.unknown split.event split.is
 fault_or_event names rounds front statement back events others fault distinct script are
     (BreaksLimit event fault' is broken) =
     limit_or_script names rounds front statement back events others event fault' distinct script are is broken
@@ -168,20 +168,20 @@ one_here : (names : List (List ℕ)) (rounds : ℕ) (events : List Event) (state
     → HasFault names rounds events statement other → fault ≡ other
 one_here names rounds events statement fault other distinct (IsBad none) (IsBad also) = refl
 one_here names rounds events statement fault other distinct (IsBad none) (NamesNobody unknown) =
-    absurd (none unknown.tick unknown.act unknown.line)
+    absurd (none unknown.others unknown.event unknown.line)
 one_here names rounds events statement fault other distinct (IsBad none) (BreaksLimit event g is broken) =
-    absurd (none event.tick (named_act names event.act) is.line)
+    absurd (none names event is)
 one_here names rounds events statement fault other distinct (NamesNobody unknown) (IsBad none) =
-    absurd (none unknown.tick unknown.act unknown.line)
+    absurd (none unknown.others unknown.event unknown.line)
 one_here names rounds events statement fault other distinct (NamesNobody unknown) (NamesNobody also) = refl
 one_here names rounds events statement fault other distinct (NamesNobody unknown)
     (BreaksLimit event g is broken) =
-    absurd (known_line names statement.words event unknown is)
+    absurd (unknown.unknown event is)
 one_here names rounds events statement fault other distinct (BreaksLimit event f is broken) (IsBad none) =
-    absurd (none event.tick (named_act names event.act) is.line)
+    absurd (none names event is)
 one_here names rounds events statement fault other distinct (BreaksLimit event f is broken)
     (NamesNobody unknown) =
-    absurd (known_line names statement.words event unknown is)
+    absurd (unknown.unknown event is)
 one_here names rounds events statement fault other distinct (BreaksLimit event f is broken)
     (BreaksLimit event' g is' broken') =
     let same : event' ≡ event = one_event names statement.words event' event distinct is' is in

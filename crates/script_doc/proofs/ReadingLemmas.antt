@@ -13,17 +13,16 @@ use Rattle.script_doc.specs.declared.event_reader.LineFault.{LineFault}
 use Rattle.tab_core.specs.Edits.{AreEditsOf, vcpu_of}
 use Rattle.tab_core.proofs.Lists.{only_one}
 use Rattle.tab_words.proofs.CommandLemmas.{other_word}
-use Rattle.script_doc.specs.EventLines.{IsGoodEdit, NamedEdit, sets, leaves, wakes, blocks, changes, bursts, edit_words}
-use Rattle.script_doc.specs.Events.{HasUnknownEdit, edit_name, named_edit}
+use Rattle.script_doc.specs.Inside.NamedLines.{blocks, bursts, changes, edit_name, HasUnknownEdit, IsGoodNamedEdit, leaves, named_edit, named_edit_words, NamedEdit, sets, wakes}
 use Rattle.vcpu_names.specs.Names.{IsUnknown}
 use Rattle.script_doc.specs.Inside.Reading.{AreEdits, AreNoEdits, AreUnknownEdits, IsEdit, IsNoEdit, IsUnknownAct, IsUnknownName}
 
 -- the words are no list of edits
 abbrev NoEdits : List (List ℕ) → Type 0
-NoEdits words = (edits : List NamedEdit) → All IsGoodEdit edits → words ≡ flat_map edit_words edits → ⊥
+NoEdits words = (edits : List NamedEdit) → All IsGoodNamedEdit edits → words ≡ flat_map named_edit_words edits → ⊥
 
 -- where no edits follow an edit, the words from it on are none either
-after_edit : (edit : NamedEdit) (words rest : List (List ℕ)) → words ≡ edit_words edit ++ rest
+after_edit : (edit : NamedEdit) (words rest : List (List ℕ)) → words ≡ named_edit_words edit ++ rest
     → NoEdits rest → NoEdits words
 after_edit (sets n s l) words rest is none [] good same = absurd (cc)
 after_edit (leaves n) words rest is none [] good same = absurd (cc)
@@ -40,8 +39,8 @@ after_edit (leaves n) words rest is none (sets m t k ∷ edits) good same =
 pub record EditsSoFar (names : List (List ℕ)) (words rest : List (List ℕ)) (edits : List Edit)
     (all_known : Bool) : Type 0 where
   pub named : List NamedEdit
-  pub written : words ≡ flat_map edit_words named ++ rest
-  pub good : All IsGoodEdit named
+  pub written : words ≡ flat_map named_edit_words named ++ rest
+  pub good : All IsGoodNamedEdit named
   pub within : AreEditsOf (length names) edits
   pub known : all_known ≡ true → named ≡ map (named_edit names) edits
   pub unknown : all_known ≡ false → HasUnknownEdit names named
@@ -75,14 +74,14 @@ last_unknown names (first ∷ edits) edit is = inr (last_unknown names edits edi
 
 -- the words up to after one more edit
 written_more : (words rest after : List (List ℕ)) (named : List NamedEdit) (edit : NamedEdit)
-    → words ≡ flat_map edit_words named ++ rest → rest ≡ edit_words edit ++ after
-    → words ≡ flat_map edit_words (named ++ edit ∷ []) ++ after
+    → words ≡ flat_map named_edit_words named ++ rest → rest ≡ named_edit_words edit ++ after
+    → words ≡ flat_map named_edit_words (named ++ edit ∷ []) ++ after
 written_more words rest after named edit written is =
     written
-    ∙ (ap (λ ws. flat_map edit_words named ++ ws) is
-    ∙ (sym (append_assoc (flat_map edit_words named) (edit_words edit) after)
-    ∙ ap (λ ws. ws ++ after) (ap (λ ws. flat_map edit_words named ++ ws)
-    (sym (append-nil (edit_words edit))) ∙ sym (flat_map-append edit_words named (edit ∷ [])))))
+    ∙ (ap (λ ws. flat_map named_edit_words named ++ ws) is
+    ∙ (sym (append_assoc (flat_map named_edit_words named) (named_edit_words edit) after)
+    ∙ ap (λ ws. ws ++ after) (ap (λ ws. flat_map named_edit_words named ++ ws)
+    (sym (append-nil (named_edit_words edit))) ∙ sym (flat_map-append named_edit_words named (edit ∷ [])))))
 
 -- one more edit
 pub edit_more : (names words rest after : List (List ℕ)) (edits : List Edit) (edit : Edit) (all_known : Bool)
@@ -91,7 +90,7 @@ pub edit_more : (names words rest after : List (List ℕ)) (edits : List Edit) (
 edit_more names words rest after edits edit all_known so_far is = record {
   named = so_far.named ++ is.named ∷ [];
   written = written_more words rest after so_far.named is.named so_far.written is.written;
-  good = All-append IsGoodEdit so_far.named (is.named ∷ []) so_far.good (only_one IsGoodEdit is.named is.good);
+  good = All-append IsGoodNamedEdit so_far.named (is.named ∷ []) so_far.good (only_one IsGoodNamedEdit is.named is.good);
   within =
       All-append (λ (edit : Edit). vcpu_of edit < length names) edits (edit ∷ []) so_far.within
       (only_one (λ (edit : Edit). vcpu_of edit < length names) edit is.meaning.1);
@@ -110,7 +109,7 @@ pub edit_unknown : (names words rest after : List (List ℕ)) (edits : List Edit
 edit_unknown names words rest after edits all_known so_far is = record {
   named = so_far.named ++ is.named ∷ [];
   written = written_more words rest after so_far.named is.named so_far.written is.written;
-  good = All-append IsGoodEdit so_far.named (is.named ∷ []) so_far.good (only_one IsGoodEdit is.named is.good);
+  good = All-append IsGoodNamedEdit so_far.named (is.named ∷ []) so_far.good (only_one IsGoodNamedEdit is.named is.good);
   within = so_far.within;
   known = λ known. absurd (cc);
   unknown = λ _. last_unknown names so_far.named is.named is.meaning;
@@ -121,7 +120,7 @@ edit_unknown names words rest after edits all_known so_far is = record {
 not_empty : (kind : List ℕ) (words : List (List ℕ)) → IsNoEdit (kind ∷ words) → NoEdits (kind ∷ words)
 not_empty kind words none [] good same = cc
 not_empty kind words none (edit ∷ edits) good same =
-    none edit (flat_map edit_words edits) (good 0 edit (omega arith)) same
+    none edit (flat_map named_edit_words edits) (good 0 edit (omega arith)) same
 
 -- what follows is no edit
 pub no_edit : (names words : List (List ℕ)) (kind : List ℕ) (rest : List (List ℕ))
@@ -137,16 +136,16 @@ none_of_none words is (sets n s l ∷ edits) some good same = cc
 none_of_none words is (leaves n ∷ edits) some good same = cc
 
 -- at the end nothing is left after the edits
-whole : (words : List (List ℕ)) (named : List NamedEdit) → words ≡ flat_map edit_words named ++ []
-    → words ≡ flat_map edit_words named
-whole words named written = written ∙ append-nil (flat_map edit_words named)
+whole : (words : List (List ℕ)) (named : List NamedEdit) → words ≡ flat_map named_edit_words named ++ []
+    → words ≡ flat_map named_edit_words named
+whole words named written = written ∙ append-nil (flat_map named_edit_words named)
 
 -- at the end without an edit the words are no change
 pub no_edit_at_all : (names words : List (List ℕ)) (edits : List Edit) (all_known : Bool)
     → EditsSoFar names words [] edits all_known → all_known ≡ true → length edits ≡ 0 → AreNoEdits words
 no_edit_at_all names words [] all_known so_far known none =
     none_of_none words (whole words so_far.named so_far.written
-    ∙ ap (λ ns. flat_map edit_words ns) (so_far.known known))
+    ∙ ap (λ ns. flat_map named_edit_words ns) (so_far.known known))
 no_edit_at_all names words (edit ∷ edits) all_known so_far known none = absurd (omega arith)
 
 -- at the end all names known, the words are the edits
@@ -156,7 +155,7 @@ pub all_edits : (names words : List (List ℕ)) (edits : List Edit) (all_known :
 all_edits names words edits all_known so_far known some =
     let same = so_far.known known in
     record {
-      written = whole words so_far.named so_far.written ∙ ap (λ ns. flat_map edit_words ns) same;
+      written = whole words so_far.named so_far.written ∙ ap (λ ns. flat_map named_edit_words ns) same;
       some = rw length-map some;
       good = rw (← same) so_far.good;
       within = so_far.within;

@@ -12,8 +12,9 @@ use Rattle.tab_core.proofs.Lists.{only_one}
 use Rattle.tab_words.specs.Lines.{lines_of}
 use Rattle.tab_words.specs.Words.{words_of}
 use Rattle.vcpu_names.specs.Names.{names_of}
-use Rattle.script_doc.specs.EventLines.{IsNoLine}
-use Rattle.script_doc.specs.Events.{IsActWithin, IsEvent, IsUnknownLine, is_change}
+use Rattle.script_doc.specs.Events.{IsActWithin, IsEvent, is_change}
+use Rattle.script_doc.specs.Inside.NamedLines.{IsNamedEvent, IsNoNamedLine, IsUnknownNamedLine}
+use Rattle.script_doc.proofs.EventsLemmas.{as_named, no_line, of_named, unknown_line}
 use Rattle.script_doc.specs.Inside.Reading.{fault_at}
 use Rattle.script_doc.specs.Script.{AreEvents, AreWithin, IsScript, changes_in}
 use Rattle.script_doc.specs.ScriptFaults.{Before, HasFault, IsBad, NamesNobody, BreaksLimit, IsFirstFault, broken_limit, last_tick, left_by}
@@ -198,7 +199,7 @@ pub event_read : (names : List (List ℕ)) (rounds : ℕ) (bytes : List ℕ)
     (number tick changes after : ℕ) (events : List Event) (line : List ℕ) (lines : List (List ℕ))
     (event : Event)
     → EventsSoFar names rounds bytes number tick changes events (line ∷ lines) → is_skipped line ≡ false
-    → IsEvent names (words_of line) event
+    → IsNamedEvent names (words_of line) event
     → IsInLimits rounds (record { tick = tick; count = length events; changes = changes }) event
     → after ≡ changes + cond (is_change event.act) 1 0
     → EventsSoFar names rounds bytes (number + 1) event.tick after (events ++ event ∷ []) lines
@@ -212,7 +213,8 @@ event_read names rounds bytes number tick changes after events line lines event 
           ∙ (ap (λ statements. so_far.front ++ statements) (statements_from-kept (number + 1) line lines kept)
           ∙ sym (append_assoc so_far.front (statement ∷ []) (statements_from (number + 1 + 1) lines)));
       script =
-          script_more names rounds tick so_far.front statement events event so_far.script so_far.highest is
+          script_more names rounds tick so_far.front statement events event so_far.script so_far.highest
+          (of_named names (words_of line) event is)
           (subst (λ (n : ℕ).
           IsInLimits rounds (record { tick = tick; count = length events; changes = n }) event)
           so_far.changed limits);
@@ -246,16 +248,16 @@ first_fault_here names rounds bytes number tick changes events line lines fault 
 pub form_fault : (names : List (List ℕ)) (rounds : ℕ) (bytes : List ℕ) (number tick changes : ℕ)
     (events : List Event) (line : List ℕ) (lines : List (List ℕ)) (fault : LineFault)
     → EventsSoFar names rounds bytes number tick changes events (line ∷ lines) → is_skipped line ≡ false
-    → (fault ≡ BadForm → IsNoLine (words_of line))
-    → (fault ≡ NoSuchName → IsUnknownLine names (words_of line))
+    → (fault ≡ BadForm → IsNoNamedLine (words_of line))
+    → (fault ≡ NoSuchName → IsUnknownNamedLine names (words_of line))
     → (fault_at (number + 1) fault ≡ NoMemory)
     ⊎ IsFirstFault names rounds (statements_of bytes) (fault_at (number + 1) fault)
 form_fault names rounds bytes number tick changes events line lines BadForm so_far kept bad unknown =
     inr (first_fault_here names rounds bytes number tick changes events line lines
-    (BadLine (number + 1)) so_far kept (IsBad (bad refl)))
+    (BadLine (number + 1)) so_far kept (IsBad (no_line _ (bad refl))))
 form_fault names rounds bytes number tick changes events line lines NoSuchName so_far kept bad unknown =
     inr (first_fault_here names rounds bytes number tick changes events line lines
-    (UnknownName (number + 1)) so_far kept (NamesNobody (unknown refl)))
+    (UnknownName (number + 1)) so_far kept (NamesNobody (unknown_line _ _ (unknown refl))))
 form_fault names rounds bytes number tick changes events line lines OutOfMemory so_far kept bad
     unknown = inl refl
 
@@ -263,7 +265,7 @@ form_fault names rounds bytes number tick changes events line lines OutOfMemory 
 pub limit_fault : (names : List (List ℕ)) (rounds : ℕ) (bytes : List ℕ) (number tick changes : ℕ)
     (events : List Event) (line : List ℕ) (lines : List (List ℕ)) (event : Event) (fault : ScriptFault)
     → EventsSoFar names rounds bytes number tick changes events (line ∷ lines) → is_skipped line ≡ false
-    → IsEvent names (words_of line) event
+    → IsNamedEvent names (words_of line) event
     → broken_limit rounds (record { tick = tick; count = length events; changes = changes })
     (number + 1) event ≡ Some fault
     → IsFirstFault names rounds (statements_of bytes) fault
@@ -272,7 +274,7 @@ limit_fault names rounds bytes number tick changes events line lines event fault
     let left : before_of tick changes ≡ left_by events =
     ap (λ t. before_of t changes) so_far.last ∙ ap (λ n. before_of (last_tick events) n) so_far.changed in
     first_fault_here names rounds bytes number tick changes events line lines fault so_far kept
-    (BreaksLimit event fault is
+    (BreaksLimit event fault (of_named names (words_of line) event is)
     (subst (λ (before : Before). broken_limit rounds before (number + 1) event ≡ Some fault) left broken))
 
 -- after the last line
@@ -293,7 +295,8 @@ events_within : (names : List (List ℕ)) (statements : List Statement) (events 
     → AreEvents names statements events → AreWithin (length names) events
 events_within names [] [] are = λ k d low. absurd (omega arith)
 events_within names (statement ∷ statements) (event ∷ events) are =
-    All-cons (λ (event : Event). IsActWithin (length names) event.act) event events are.0.within
+    All-cons (λ (event : Event). IsActWithin (length names) event.act) event events
+    (as_named names statement.words event are.0).within
     (events_within names statements events are.1)
 events_within names [] (event ∷ events) are = absurd are
 events_within names (statement ∷ statements) [] are = absurd are

@@ -1,50 +1,57 @@
 -- The events that lines state for a host, whose vCPUs the lines name.
-use Rattle.std.specs.Prelude.{ℕ, ◌<◌, ◌⊎◌, Bool, true, false, List, [], ◌∷◌, map, length}
-use Rattle.tab_core.specs.Edits.{AreEditsOf}
+use Rattle.std.specs.Prelude.{◌≡◌, ℕ, ◌<◌, ◌≤◌, ◌^◌, Bool, true, false, List, [], ◌∷◌, codes, decimal, flat_map, length}
+use Rattle.std.specs.List.{All}
+use Rattle.tab_core.specs.Edits.{AreEditsOf, vcpu_of}
+use Rattle.tab_core.specs.Name.{IsName}
 use Rattle.tab_core.specs.declared.edit.Edit.{Edit}
 use Rattle.tab_core.specs.declared.edit.Edit.TheVariants.{Set, Leave}
-use Rattle.vcpu_names.specs.Names.{IsUnknown, name_at}
-use Rattle.script_doc.specs.EventLines.{IsLine, NamedAct, NamedEdit, sets, leaves, wakes, blocks, changes, bursts}
+use Rattle.vcpu_names.specs.Names.{name_at}
 use Rattle.script_doc.specs.declared.event.Act.{Act}
 use Rattle.script_doc.specs.declared.event.Act.TheVariants.{Wake, Block, Change, Burst}
 use Rattle.script_doc.specs.declared.event.Event.{Event}
 
--- the name of an edit
-abbrev pub edit_name : NamedEdit → List ℕ
-edit_name (sets name share latency) = name
-edit_name (leaves name) = name
+-- the words of an edit: `set NAME SHARE LATENCY` or `leave NAME`. That the two numbers are in their ranges is a fact
+-- of the type `Reservation`
+abbrev pub edit_words : List (List ℕ) → Edit → List (List ℕ)
+edit_words names (Set vcpu reservation) = codes "set" ∷ name_at names vcpu
+    ∷ decimal reservation.share_ppm ∷ decimal reservation.latency_ns ∷ []
+edit_words names (Leave vcpu) = codes "leave" ∷ name_at names vcpu ∷ []
 
--- an edit's name is no vCPU's
-abbrev pub HasUnknownEdit : List (List ℕ) → List NamedEdit → Type 0
-HasUnknownEdit names [] = ⊥
-HasUnknownEdit names (edit ∷ edits) = IsUnknown names (edit_name edit) ⊎ HasUnknownEdit names edits
+-- the words of what happens: `wake NAME`, `block NAME`, `change` and edits, or `burst NAME WORK`
+abbrev pub act_words : List (List ℕ) → Act → List (List ℕ)
+act_words names (Wake vcpu) = codes "wake" ∷ name_at names vcpu ∷ []
+act_words names (Block vcpu) = codes "block" ∷ name_at names vcpu ∷ []
+act_words names (Change edits) = codes "change" ∷ flat_map (edit_words names) edits
+act_words names (Burst vcpu work) = codes "burst" ∷ name_at names vcpu ∷ decimal work ∷ []
 
--- a name of what happens is no vCPU's
-abbrev pub HasUnknown : List (List ℕ) → NamedAct → Type 0
-HasUnknown names (wakes name) = IsUnknown names name
-HasUnknown names (blocks name) = IsUnknown names name
-HasUnknown names (changes edits) = HasUnknownEdit names edits
-HasUnknown names (bursts name work) = IsUnknown names name
+-- the vCPU has one of the names, of the form of names
+abbrev pub IsNamed : List (List ℕ) → ℕ → Type 0
+IsNamed names vcpu = (vcpu < length names) × IsName (name_at names vcpu)
 
--- the words are those of an event that names no vCPU of the host
+-- what happens is of vCPUs with names; a change has one edit at least, and a burst no more work than the longest
+-- run has ticks
+abbrev pub IsGoodAct : List (List ℕ) → Act → Type 0
+IsGoodAct names (Wake vcpu) = IsNamed names vcpu
+IsGoodAct names (Block vcpu) = IsNamed names vcpu
+IsGoodAct names (Change edits) = (0 < length edits) × All (λ edit. IsNamed names (vcpu_of edit)) edits
+IsGoodAct names (Burst vcpu work) = IsNamed names vcpu × (1 ≤ work) × (work ≤ 1026000000)
+
+-- the words are those of this event of a host whose vCPUs have these names
+pub record IsEvent (names : List (List ℕ)) (words : List (List ℕ)) (event : Event) : Type 0 where
+  pub written : words ≡ decimal event.tick ∷ act_words names event.act
+  pub short : event.tick < 2 ^ 32
+  pub good : IsGoodAct names event.act
+
+-- whatever names vCPUs have, the words are those of no event
+abbrev pub IsNoLine : List (List ℕ) → Type 0
+IsNoLine words = (names : List (List ℕ)) (event : Event) → IsEvent names words event → ⊥
+
+-- if vCPUs had some other names the words would be those of an event, and with these names they are not
 pub record IsUnknownLine (names : List (List ℕ)) (words : List (List ℕ)) : Type 0 where
-  pub tick : ℕ
-  pub act : NamedAct
-  pub line : IsLine words tick act
-  pub unknown : HasUnknown names act
-
--- an edit as it is written, by the vCPU's name
-abbrev pub named_edit : List (List ℕ) → Edit → NamedEdit
-named_edit names (Set vcpu reservation) =
-    sets (name_at names vcpu) reservation.share_ppm reservation.latency_ns
-named_edit names (Leave vcpu) = leaves (name_at names vcpu)
-
--- what happens as it is written
-abbrev pub named_act : List (List ℕ) → Act → NamedAct
-named_act names (Wake vcpu) = wakes (name_at names vcpu)
-named_act names (Block vcpu) = blocks (name_at names vcpu)
-named_act names (Change edits) = changes (map (named_edit names) edits)
-named_act names (Burst vcpu work) = bursts (name_at names vcpu) work
+  pub others : List (List ℕ)
+  pub event : Event
+  pub line : IsEvent others words event
+  pub unknown : (own : Event) → IsEvent names words own → ⊥
 
 -- what happens is of vCPUs below this count
 abbrev pub IsActWithin : ℕ → Act → Type 0
@@ -52,11 +59,6 @@ IsActWithin count (Wake vcpu) = vcpu < count
 IsActWithin count (Block vcpu) = vcpu < count
 IsActWithin count (Change edits) = AreEditsOf count edits
 IsActWithin count (Burst vcpu work) = vcpu < count
-
--- the words are those of this event of a host whose vCPUs have these names
-pub record IsEvent (names : List (List ℕ)) (words : List (List ℕ)) (event : Event) : Type 0 where
-  pub line : IsLine words event.tick (named_act names event.act)
-  pub within : IsActWithin (length names) event.act
 
 -- the act is a change of reservations
 abbrev pub is_change : Act → Bool

@@ -1,4 +1,3 @@
-pub mod EventLines
 pub mod Events
 pub mod Inside
 pub mod Refusal

@@ -2,8 +2,7 @@
 -- the first in their order.
 use Rattle.std.specs.Prelude.{◌≡◌, ℕ, ◌*◌, ◌&&◌, nat_lt, nat_le, if◌then◌else◌, List, [], ◌∷◌, ◌++◌, length, Option, Some, None}
 use Rattle.tab_core.specs.declared.TheConstants.{ROUND}
-use Rattle.script_doc.specs.EventLines.{IsNoLine}
-use Rattle.script_doc.specs.Events.{IsEvent, IsUnknownLine, is_change}
+use Rattle.script_doc.specs.Events.{IsEvent, IsNoLine, IsUnknownLine, is_change}
 use Rattle.script_doc.specs.Script.{IsScript, changes_in}
 use Rattle.script_doc.specs.Statements.{Statement}
 use Rattle.script_doc.specs.declared.event.Event.{Event}

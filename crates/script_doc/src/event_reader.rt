@@ -2,8 +2,7 @@ ghost use Rattle.std.specs.Prelude.{◌≡◌, ℕ, ◌<◌, ◌≤◌, ◌∷�
 ghost use Rattle.tab_core.specs.Name.{IsName};
 ghost use Rattle.tab_core.specs.declared.TheConstants.{MAX_LATENCY_NS, WHOLE_PPM};
 ghost use Rattle.tab_words.specs.Words.{words_of};
-ghost use Rattle.script_doc.specs.EventLines.{IsNoLine};
-ghost use Rattle.script_doc.specs.Events.{IsEvent, IsUnknownLine};
+ghost use Rattle.script_doc.specs.Inside.NamedLines.{IsNamedEvent, IsNoNamedLine, IsUnknownNamedLine};
 ghost use Rattle.script_doc.specs.declared.event_reader.LineFault.TheVariants.{NoMemory};
 ghost use Rattle.vcpu_names.specs.Names.{IsUnknown, name_at};
 ghost use Rattle.script_doc.specs.Inside.Reading.{AreEdits, AreNoEdits, AreUnknownEdits, IsAct, IsEdit, IsNoAct, IsNoEdit, IsNoName, IsOnly, IsUnknownAct, IsUnknownName};
@@ -32,10 +31,10 @@ impl<T: Drop> From<AllocFailed<T>> for LineFault {
 
 // The event that a line is.
 pub(crate) fn event_of(alloc: Global, line: &[u8], names: &Names<'_>) -> Result<Event, LineFault>
-    ensures ok { IfOk result (λ event. IsEvent names.now (words_of line.now) event) }
-    ensures bad_line { IsErrOf result LineFault.BadLine → IsNoLine (words_of line.now) }
+    ensures ok { IfOk result (λ event. IsNamedEvent names.now (words_of line.now) event) }
+    ensures bad_line { IsErrOf result LineFault.BadLine → IsNoNamedLine (words_of line.now) }
     ensures unknown_name { IsErrOf result LineFault.UnknownName
-        → IsUnknownLine names.now (words_of line.now) }
+        → IsUnknownNamedLine names.now (words_of line.now) }
 {
     let mut words = Words::of(line);
     let Some(first) = words.next() else {

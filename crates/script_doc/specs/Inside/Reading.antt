@@ -4,8 +4,8 @@ use Rattle.std.specs.List.{All}
 use Rattle.tab_core.specs.Edits.{AreEditsOf, vcpu_of}
 use Rattle.tab_core.specs.Name.{IsName}
 use Rattle.tab_core.specs.declared.edit.Edit.{Edit}
-use Rattle.script_doc.specs.EventLines.{IsGoodAct, IsGoodEdit, NamedAct, NamedEdit, act_words, edit_words}
-use Rattle.script_doc.specs.Events.{HasUnknown, HasUnknownEdit, IsActWithin, edit_name, named_act, named_edit}
+use Rattle.script_doc.specs.Events.{IsActWithin}
+use Rattle.script_doc.specs.Inside.NamedLines.{edit_name, HasUnknown, HasUnknownEdit, IsGoodNamedAct, IsGoodNamedEdit, named_act, named_act_words, named_edit, named_edit_words, NamedAct, NamedEdit}
 use Rattle.vcpu_names.specs.Names.{IsUnknown, name_at}
 use Rattle.script_doc.specs.declared.event.Act.{Act}
 use Rattle.script_doc.specs.declared.event_reader.LineFault.{LineFault}
@@ -33,51 +33,51 @@ pub record IsUnknownName (names : List (List ℕ)) (words : List (List ℕ)) : T
 -- the words begin with an edit, before the rest; it is found where a vCPU has its name
 pub record IsEdit (names : List (List ℕ)) (words rest : List (List ℕ)) (found : Option Edit) : Type 0 where
   pub named : NamedEdit
-  pub written : words ≡ edit_words named ++ rest
-  pub good : IsGoodEdit named
+  pub written : words ≡ named_edit_words named ++ rest
+  pub good : IsGoodNamedEdit named
   pub meaning : MatchOption found (IsUnknown names (edit_name named))
       (λ edit. (named ≡ named_edit names edit) × (vcpu_of edit < length names))
 
 -- the words do not begin with an edit
 abbrev pub IsNoEdit : List (List ℕ) → Type 0
-IsNoEdit words = (edit : NamedEdit) (rest : List (List ℕ)) → IsGoodEdit edit
-    → words ≡ edit_words edit ++ rest → ⊥
+IsNoEdit words = (edit : NamedEdit) (rest : List (List ℕ)) → IsGoodNamedEdit edit
+    → words ≡ named_edit_words edit ++ rest → ⊥
 
 -- the words are these edits
 pub record AreEdits (names : List (List ℕ)) (words : List (List ℕ)) (edits : List Edit) : Type 0 where
-  pub written : words ≡ flat_map edit_words (map (named_edit names) edits)
+  pub written : words ≡ flat_map named_edit_words (map (named_edit names) edits)
   pub some : 0 < length (map (named_edit names) edits)
-  pub good : All IsGoodEdit (map (named_edit names) edits)
+  pub good : All IsGoodNamedEdit (map (named_edit names) edits)
   pub within : AreEditsOf (length names) edits
 
 -- the words are no edits, of which there is one at least
 abbrev pub AreNoEdits : List (List ℕ) → Type 0
-AreNoEdits words = (edits : List NamedEdit) → 0 < length edits → All IsGoodEdit edits
-    → words ≡ flat_map edit_words edits → ⊥
+AreNoEdits words = (edits : List NamedEdit) → 0 < length edits → All IsGoodNamedEdit edits
+    → words ≡ flat_map named_edit_words edits → ⊥
 
 -- the words are edits, and the name of one is no vCPU's
 pub record AreUnknownEdits (names : List (List ℕ)) (words : List (List ℕ)) : Type 0 where
   pub edits : List NamedEdit
-  pub written : words ≡ flat_map edit_words edits
+  pub written : words ≡ flat_map named_edit_words edits
   pub some : 0 < length edits
-  pub good : All IsGoodEdit edits
+  pub good : All IsGoodNamedEdit edits
   pub unknown : HasUnknownEdit names edits
 
 -- the words say that this happens
 pub record IsAct (names : List (List ℕ)) (words : List (List ℕ)) (act : Act) : Type 0 where
-  pub written : words ≡ act_words (named_act names act)
-  pub good : IsGoodAct (named_act names act)
+  pub written : words ≡ named_act_words (named_act names act)
+  pub good : IsGoodNamedAct (named_act names act)
   pub within : IsActWithin (length names) act
 
 -- the words say nothing that happens
 abbrev pub IsNoAct : List (List ℕ) → Type 0
-IsNoAct words = (act : NamedAct) → IsGoodAct act → words ≡ act_words act → ⊥
+IsNoAct words = (act : NamedAct) → IsGoodNamedAct act → words ≡ named_act_words act → ⊥
 
 -- the words say what happens, and a name of it is no vCPU's
 pub record IsUnknownAct (names : List (List ℕ)) (words : List (List ℕ)) : Type 0 where
   pub act : NamedAct
-  pub written : words ≡ act_words act
-  pub good : IsGoodAct act
+  pub written : words ≡ named_act_words act
+  pub good : IsGoodNamedAct act
   pub unknown : HasUnknown names act
 
 -- the fault of a line that isn't read as an event, at the line of this number

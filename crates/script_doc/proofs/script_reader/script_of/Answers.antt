@@ -1,8 +1,8 @@
 use Rattle.std.proofs.Common.{◌≡◌, ℕ, ◌+◌, [], ◌∷◌, ◌++◌, length, cond, true, false, subst, sym, ap, rules, arith, inr, Err, Some, None}
 use Rattle.std.proofs.lemmas.Grind.{common_steps}
 use Rattle.tab_words.specs.Words.{words_of}
-use Rattle.script_doc.specs.EventLines.{IsNoLine}
-use Rattle.script_doc.specs.Events.{IsEvent, IsUnknownLine, is_change}
+use Rattle.script_doc.specs.Events.{is_change}
+use Rattle.script_doc.specs.Inside.NamedLines.{IsNamedEvent, IsNoNamedLine, IsUnknownNamedLine}
 use Rattle.script_doc.specs.ScriptFaults.{Before, broken_limit}
 use Rattle.script_doc.specs.Statements.{is_skipped}
 use Rattle.script_doc.specs.declared.event_reader.LineFault.TheVariants.{BadLine as BadForm, UnknownName as NoSuchName}
@@ -18,10 +18,10 @@ returns-in-Err-clause-fault c =
     c.loop-line.number c.loop-line.tick c.loop-line.changes c.loop-line.events.items)
     c.in-Some.ensures.steps c.loop-line.invariant in
     let kept : is_skipped c.in-Some.line.now ≡ false = search rules in
-    let bad : (c.in-Err.fault ≡ BadForm → IsNoLine (words_of c.in-Some.line.now)) =
+    let bad : (c.in-Err.fault ≡ BadForm → IsNoNamedLine (words_of c.in-Some.line.now)) =
     λ is. c.in-Err.ensures.bad_line (ap Err is) in
     let unknown : (c.in-Err.fault ≡ NoSuchName
-    → IsUnknownLine c.args.names.now (words_of c.in-Some.line.now)) =
+    → IsUnknownNamedLine c.args.names.now (words_of c.in-Some.line.now)) =
     λ is. c.in-Err.ensures.unknown_name (ap Err is) in
     rw c.at_line.ensures (form_fault _ _ _ _ _ _ _ _ _ c.in-Err.fault at kept bad unknown)
 
@@ -34,7 +34,7 @@ returns-in-Some-broken_limit-clause-fault c =
     c.loop-line.number c.loop-line.tick c.loop-line.changes c.loop-line.events.items)
     c.in-Some.ensures.steps c.loop-line.invariant in
     let kept : is_skipped c.in-Some.line.now ≡ false = search rules in
-    let is : IsEvent c.args.names.now (words_of c.in-Some.line.now) c.in-Ok.event = c.in-Ok.ensures.ok in
+    let is : IsNamedEvent c.args.names.now (words_of c.in-Some.line.now) c.in-Ok.event = c.in-Ok.ensures.ok in
     let many : c.len.result ≡ length c.loop-line.events.items = grind (arith, common_steps) in
     let before_of : ℕ → Before = λ n. record { tick = c.loop-line.tick; count = n; changes = c.loop-line.changes } in
     let broken : broken_limit c.args.rounds (before_of (length c.loop-line.events.items))
@@ -52,7 +52,7 @@ loop-line-preserved-in-Continue-1 c =
     c.loop-line.number c.loop-line.tick c.loop-line.changes c.loop-line.events.items)
     c.in-Some.ensures.steps c.loop-line.invariant in
     let kept : is_skipped c.in-Some.line.now ≡ false = search rules in
-    let is : IsEvent c.args.names.now (words_of c.in-Some.line.now) c.in-Ok.event = c.in-Ok.ensures.ok in
+    let is : IsNamedEvent c.args.names.now (words_of c.in-Some.line.now) c.in-Ok.event = c.in-Ok.ensures.ok in
     let many : c.len.result ≡ length c.loop-line.events.items = grind (arith, common_steps) in
     let before_of : ℕ → Before = λ n. record { tick = c.loop-line.tick; count = n; changes = c.loop-line.changes } in
     let unbroken : broken_limit c.args.rounds (before_of (length c.loop-line.events.items))
