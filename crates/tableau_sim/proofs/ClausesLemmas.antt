@@ -11,7 +11,7 @@ use Rattle.tableau_sim.specs.declared.status.Status.{Status}
 use Rattle.tableau_sim.specs.declared.status.Status.TheVariants as status
 use Rattle.tableau_sim.specs.Clauses.{CameOut, EndsUnread, IsFaultless, IsToRead, IsToReadIf, LineIsOut, NoFaults, PrefixIsOut, Unread}
 use Rattle.tableau_sim.specs.Columns.{reads, takes_memory}
-use Rattle.tableau_sim.specs.Frame.{Answers, Due, HasDue, HasReadIf, IsDue, IsOut, MayHaveReadIf, outcome_of}
+use Rattle.tableau_sim.specs.Frame.{Answers, Due, HasDue, HasReadIf, IsDue, IsOut, outcome_of}
 use Rattle.tableau_sim.specs.Frame.Due.{LacksMemory, NoCommand, Replied, SourceFailed, TooMuch}
 use Rattle.tableau_sim.specs.Lines.{line_of_status}
 use Rattle.tableau_sim.specs.Outcomes.{CallOutcome, IsOfInput, status_of, text_of_outcome}
@@ -226,7 +226,7 @@ silent_of R Leaves silent words source source' command input (TooMuch other) are
 silent_of R Leaves silent words source source' command input (LacksMemory other) are still h =
     let same : other ≡ command = same_command words other command h.0 are in (
       inr (subst (λ c. takes_memory c ≡ true) same h.1, refl),
-      subst (λ b. MayHaveReadIf b input) (ap reads same ∙ still) h.2,
+      h.2 (ap reads same ∙ still),
     )
 silent_of R Leaves silent words source source' command input (Replied other outcome) are still h =
     let same : other ≡ command = same_command words other command h.0 are in

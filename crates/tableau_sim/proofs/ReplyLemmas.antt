@@ -1,5 +1,5 @@
 -- What was read, and what is due after it: the lemmas of `specs/Inside/Reply.antt`.
-use Rattle.std.proofs.Common.{◌≡◌, ℕ, ◌≤◌, List, [], true, false, length, refl, Option, Some, None, Result, Ok, Err, inl, inr, sym, subst, arith}
+use Rattle.std.proofs.Common.{◌≡◌, ℕ, ◌≤◌, List, [], true, false, length, refl, Option, Some, None, Result, Ok, Err, inl, inr, sym, subst, ◌∙◌, arith}
 use Rattle.std.proofs.KnownBytes.{Consumes-nil}
 use Rattle.std.specs.Io.KnownBytes.{Consumes}
 use Rattle.std.specs.Prelude.{IsErrOf, Vec}
@@ -26,7 +26,7 @@ use Rattle.tableau_sim.specs.Columns.{reads, takes_memory}
 use Rattle.tableau_sim.specs.Commands.{IsStillCommand}
 use Rattle.tableau_sim.specs.Inside.Reply.{AnswersWith, HasInput, HasNoInput, IsOff, IsReplyTo, Makes, StopsReading, handed, host_in, outcome_in}
 use Rattle.tableau_sim.specs.Clauses.{HandsHost, RefusesHost}
-use Rattle.tableau_sim.specs.Frame.{Answers, Due, HasReadIf, IsDue, MayHaveReadIf, WritesReply, outcome_of}
+use Rattle.tableau_sim.specs.Frame.{Answers, Due, HasReadIf, IsDue, WritesReply, outcome_of}
 use Rattle.tableau_sim.specs.Frame.Due.{LacksMemory, NoCommand, Replied, SourceFailed, TooMuch}
 use Rattle.tableau_sim.specs.Outcomes.{CallOutcome, status_of}
 use Rattle.tableau_sim.specs.Outcomes.CallOutcome.{Refuses}
@@ -133,7 +133,7 @@ usage_reply R Leaves words source place fault still = record {
 pub made_reply : (R : Command → List ℕ → CallOutcome → Type 0) (Leaves : Due → List ℕ → Type 0) (words : List (List ℕ))
     (old new : SourceView) (command : Command) (input : List ℕ) (reply : Result Text Stop)
     → IsCommand words command → Consumes old.rest new.rest input → old.faults ≤ new.faults
-    → HasReadIf (reads command) new input → MayHaveReadIf (reads command) input
+    → HasReadIf (reads command) new input → (reads command ≡ false → input ≡ [])
     → (reply ≡ Err stop.NoMemory → (takes_memory command ≡ true) × Leaves (LacksMemory command) input)
     → Makes (R command input) (host_section (sections_of input)) reply → IsReplyTo R Leaves words old new reply
 made_reply R Leaves words old new command input (Ok text) are consumed later read part lacks h = record {
@@ -175,7 +175,7 @@ pub unread_reply : (R : Command → List ℕ → CallOutcome → Type 0) (Leaves
     → Makes (R command []) (host_section (sections_of [])) reply → IsReplyTo R Leaves words source source reply
 unread_reply R Leaves words source command reply are still lacks h =
     made_reply R Leaves words source source command [] reply are (Consumes-nil source.rest) (omega arith)
-    (subst (λ b. HasReadIf b source []) (sym still) refl) (subst (λ b. MayHaveReadIf b []) (sym still) refl)
+    (subst (λ b. HasReadIf b source []) (sym still) refl) (λ unread. refl)
     lacks h
 
 -- who reads takes memory
@@ -205,7 +205,7 @@ pub input_reply : (R : Command → List ℕ → CallOutcome → Type 0) (Leaves 
 input_reply R Leaves words old new command input reply are reading has lacks h =
     made_reply R Leaves words old new command input reply are has.consumed has.later
     (subst (λ b. HasReadIf b new input) (sym reading) (has.short, has.ended))
-    (subst (λ b. MayHaveReadIf b input) (sym reading) (tt {0}))
+    (λ unread. let e = sym reading ∙ unread in absurd cc)
     (λ is. (reading_takes command reading, lacks is)) h
 
 -- why a command got no input is due
@@ -236,7 +236,7 @@ stop_due R Leaves words old new command input why are reading still consumed lat
       has_host = tt {0};
     }
 stop_due R Leaves words old new command input why are reading still consumed later HasNoInput.Lacks =
-    let part = subst (λ b. MayHaveReadIf b input) (sym reading) (tt {0}) in
+    let part : reads command ≡ false → input ≡ [] = λ unread. (let e = sym reading ∙ unread in absurd cc) in
     record {
       input = input;
       consumed = consumed;
