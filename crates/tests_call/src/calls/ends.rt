@@ -1,8 +1,7 @@
 // Sources and sinks that fail, at each of the calls that are made of them.
-use super::{ROOM, SPLIT, call_with};
+use super::{Outcome, ROOM, call_with, comes_to};
 use core_workers::FreeGate;
 use std::alloc::Global;
-use std::process::Abort;
 use std::sync::Wait;
 use std::test::Fail;
 use std::thread::Threads;
@@ -39,20 +38,6 @@ core 1
 end
 ";
 
-const SPLIT_PLAN: &str = "plan cores 2 vcpus 3
-vcpu a period 102600 cost 61560 home 0
-vcpu b period 102600 cost 61560 home 1
-vcpu c period 102600 cost 61560 home 1
-core 0
-41040 c
-102600 a
-core 1
-61560 b
-82080 c
-102600 -
-end
-";
-
 // A vCPU of half a core, and tables that have a tick less for it.
 const SHORT_OF_HALF: &str = "cores = 1
 [[vcpu]]
@@ -83,16 +68,6 @@ core 0 slots 51300 shared 51300 idle 0
 done
 ";
 
-const SPLIT_REPORT: &str = "run 3 rounds 2 cores 0 events
-round 0 plan 0
-vcpu a offered 184680 slots 184680 shared 0 gap 41040
-vcpu b offered 184680 slots 184680 shared 31040 gap 41040
-vcpu c offered 184680 slots 184680 shared 30520 gap 20520
-core 0 slots 307800 shared 0 idle 0
-core 1 slots 246240 shared 61560 idle 0
-done
-";
-
 // One core without vCPUs, whose stint is as long as the round, and no event.
 const IDLE: &str = "cores = 1\nlag = 102600\n%%\n";
 
@@ -119,86 +94,82 @@ run 0";
 
 const REPLAY_TEXT: &str = "core 0 round 0 count 0\ncore 0 0 1000 used 0 seen 0 a slot\nposted 0\n";
 
+// Words, input, and what comes where neither of the two reads fails: the exit status, the text, and whether the board
+// is started.
+type Row<'a> = (&'a str, &'a str, u8, &'a str, bool);
+
+const READS: [Row<'static>; 4] = [
+    ("plan", "cores = 1\n", 0, NO_VCPUS, false),
+    ("plan", PAIR, 0, PAIR_PLAN, false),
+    ("run 1", HALF, 0, HALF_REPORT, true),
+    (
+        "check",
+        SHORT_OF_HALF,
+        7,
+        "no: a has 51299 of 51300 ticks in period 0\n",
+        false,
+    ),
+];
+
+const READ_FAULT: Outcome<'static> = (4, b"refused: read fault\n", false);
+
+// Whether the call ends so if its first or its second read fails, and as the row says if neither does.
+fn ends_by_reads<R: Threads + Wait + Sync>(
+    rt: &R,
+    alloc: Global,
+    row: &Row<'_>,
+) -> Result<bool, Fail> {
+    let (words, input, exit, text, started) = *row;
+    for failing in 0..3 {
+        let called = call_with(rt, alloc, words, input, &[failing], ROOM, &FreeGate)?;
+        let whole = (exit, text.as_bytes(), started);
+        let outcome = if failing < 2 { READ_FAULT } else { whole };
+        if !comes_to(&called, &outcome) {
+            return Ok(false);
+        }
+    }
+    Ok(true)
+}
+
 #[test]
 fn reads_that_fail(rt: HostRuntime) -> Result<(), Fail> {
-    let split = format!(in rt.alloc(); "{SPLIT}%%\n")?;
-    // words, input, and what comes where neither of the two reads fails: the exit status, the text, and
-    // whether the board is started
-    let cases = [
-        ("plan", "cores = 1\n", (0, NO_VCPUS, false)),
-        ("plan", SPLIT, (0, SPLIT_PLAN, false)),
-        ("run 3", split.as_str(), (0, SPLIT_REPORT, true)),
-        (
-            "check",
-            SHORT_OF_HALF,
-            (7, "no: a has 51299 of 51300 ticks in period 0\n", false),
-        ),
-    ];
-    for (words, input, whole) in cases {
-        for failing in 0..3 {
-            let (exit, text, started) = if failing < 2 {
-                (4, "refused: read fault\n", false)
-            } else {
-                whole
-            };
-            let called = call_with(&rt, rt.alloc(), words, input, &[failing], ROOM, &FreeGate)?;
-            let told = (called.exit, called.sink.bytes(), called.started);
-            assert_eq!(rt;
-                told,
-                (exit, text.as_bytes(), started),
-                "read {failing} of {words}"
-            );
-        }
+    for row in &READS {
+        assert!(rt; ends_by_reads(&rt, rt.alloc(), row)?, "{}", row.0);
     }
     Ok(())
 }
 
-// Whether the text is cut where the room ends, for every room up to its length. Where there is room for
-// all, the call ends with this status; its board is started as said.
-fn try_rooms<R: Threads + Wait + Sync + Abort>(
+const ROOMS: [Row<'static>; 6] = [
+    ("plan", "cores = 1\n", 0, NO_VCPUS, false),
+    ("plan", PAIR, 0, PAIR_PLAN, false),
+    ("", "", 1, "refused: usage at word 0\n", false),
+    ("replay 1", REPLAY, 0, REPLAY_TEXT, false),
+    ("run 1 trace", IDLE, 0, IDLE_TRACE, true),
+    ("run 1", HALF, 0, HALF_REPORT, true),
+];
+
+// Whether the text is cut where the room ends, for every room up to its length. Where there is room for all, the call
+// ends with the row's status; its board is started as the row says.
+fn ends_by_room<R: Threads + Wait + Sync>(
     rt: &R,
     alloc: Global,
-    words: &str,
-    input: &str,
-    whole: u8,
-    starts: bool,
-    text: &str,
-) -> Result<(), Fail> {
+    row: &Row<'_>,
+) -> Result<bool, Fail> {
+    let (words, input, whole, text, started) = *row;
     for room in 0..=text.len() {
         let called = call_with(rt, alloc, words, input, &[], room, &FreeGate)?;
         let exit = if room < text.len() { 5 } else { whole };
-        let told = (called.exit, called.sink.bytes(), called.started);
-        assert_eq!(rt;
-            told,
-            (exit, &text.as_bytes()[..room], starts),
-            "room {room} of {words}"
-        );
+        if !comes_to(&called, &(exit, &text.as_bytes()[..room], started)) {
+            return Ok(false);
+        }
+    }
+    Ok(true)
+}
+
+#[test]
+fn room_for_a_prefix_of_a_text(rt: HostRuntime) -> Result<(), Fail> {
+    for row in &ROOMS {
+        assert!(rt; ends_by_room(&rt, rt.alloc(), row)?, "{}", row.0);
     }
     Ok(())
-}
-
-#[test]
-fn room_for_a_front_of_a_plan_or_a_line(rt: HostRuntime) -> Result<(), Fail> {
-    try_rooms(&rt, rt.alloc(), "plan", "cores = 1\n", 0, false, NO_VCPUS)?;
-    try_rooms(&rt, rt.alloc(), "plan", PAIR, 0, false, PAIR_PLAN)?;
-    try_rooms(
-        &rt,
-        rt.alloc(),
-        "",
-        "",
-        1,
-        false,
-        "refused: usage at word 0\n",
-    )
-}
-
-#[test]
-fn room_for_a_front_of_a_trace(rt: HostRuntime) -> Result<(), Fail> {
-    try_rooms(&rt, rt.alloc(), "replay 1", REPLAY, 0, false, REPLAY_TEXT)?;
-    try_rooms(&rt, rt.alloc(), "run 1 trace", IDLE, 0, true, IDLE_TRACE)
-}
-
-#[test]
-fn room_for_a_front_of_a_report(rt: HostRuntime) -> Result<(), Fail> {
-    try_rooms(&rt, rt.alloc(), "run 1", HALF, 0, true, HALF_REPORT)
 }

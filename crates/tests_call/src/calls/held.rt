@@ -1,10 +1,12 @@
 // Runs in which a gate holds an actor until another has come to a step.
-use super::{SPLIT, call};
+use super::{ROOM, SPLIT, call_with, comes_to};
 use core_workers::Gate;
+use std::alloc::Global;
+use std::sync::Wait;
 use std::sync::atomic::AtomicU64;
 use std::sync::atomic::Ordering::SeqCst;
 use std::test::Fail;
-use std::thread::yield_now;
+use std::thread::{Threads, yield_now};
 
 // One vCPU of half a core, with stints as long as a round, and a change at the end of the first round.
 const SWITCH: &str = "cores = 1
@@ -93,94 +95,105 @@ impl Gate for Hold {
     }
 }
 
-#[test]
-fn held_actors(rt: HostRuntime) -> Result<(), Fail> {
-    // words, input, the actor that is held, the other with its step, and the text; the controller is actor 32
-    let cases = [
-        (
-            "run 2",
-            SWITCH,
-            (32, 0, 3),
-            "run 2 rounds 1 cores 1 events
+// Words, input, the actor that is held, the other with its step, and the text; the controller is actor 32.
+type HeldRow<'a> = (&'a str, &'a str, (u32, u32, u64), &'a str);
+
+const HELD: [HeldRow<'static>; 6] = [
+    (
+        "run 2",
+        SWITCH,
+        (32, 0, 3),
+        "run 2 rounds 1 cores 1 events
 change 0 at 102600: planned
 round 0 plan 0
 vcpu a offered 102600 slots 102600 shared 102600 gap 51300
 core 0 slots 102600 shared 102600 idle 0
 done
 ",
-        ),
-        (
-            "run 2",
-            SWITCH,
-            (0, 32, 1),
-            "run 2 rounds 1 cores 1 events
+    ),
+    (
+        "run 2",
+        SWITCH,
+        (0, 32, 1),
+        "run 2 rounds 1 cores 1 events
 change 0 at 102600: planned
 round 0 plan 1
 vcpu a offered 51300 slots 51300 shared 153900 gap 38475
 core 0 slots 51300 shared 153900 idle 0
 done
 ",
-        ),
-        (
-            "run 3 burst",
-            BURST,
-            (0, 32, 1),
-            "burst 0 a at 0 work 60000 seen 0 bound 307800 done 60000
+    ),
+    (
+        "run 3 burst",
+        BURST,
+        (0, 32, 1),
+        "burst 0 a at 0 work 60000 seen 0 bound 307800 done 60000
 run 3 rounds 1 cores 1 events
 round 0 plan 0
 vcpu a offered 153900 slots 153900 shared 153900 gap 51300
 core 0 slots 153900 shared 153900 idle 0
 done
 ",
-        ),
-        (
-            "run 3 burst",
-            CAPPED_BURST,
-            (0, 32, 1),
-            "burst 0 a at 0 work 60000 seen 0 bound 307800 done 111300
+    ),
+    (
+        "run 3 burst",
+        CAPPED_BURST,
+        (0, 32, 1),
+        "burst 0 a at 0 work 60000 seen 0 bound 307800 done 111300
 run 3 rounds 1 cores 1 events
 round 0 plan 0
 vcpu a offered 153900 slots 153900 shared 0 gap 51300
 core 0 slots 153900 shared 0 idle 153900
 done
 ",
-        ),
-        (
-            "run 1 burst",
-            BURST,
-            (0, 32, 1),
-            "burst 0 a at 0 work 60000 seen 0 bound - done 60000
+    ),
+    (
+        "run 1 burst",
+        BURST,
+        (0, 32, 1),
+        "burst 0 a at 0 work 60000 seen 0 bound - done 60000
 run 1 rounds 1 cores 1 events
 round 0 plan 0
 vcpu a offered 51300 slots 51300 shared 51300 gap 51300
 core 0 slots 51300 shared 51300 idle 0
 done
 ",
-        ),
-        (
-            "run 1",
-            "cores = 2\n%%\n",
-            (1, 0, 5),
-            "run 1 rounds 2 cores 0 events
+    ),
+    (
+        "run 1",
+        "cores = 2\n%%\n",
+        (1, 0, 5),
+        "run 1 rounds 2 cores 0 events
 round 0 plan 0
 core 0 slots 0 shared 0 idle 102600
 core 1 slots 0 shared 0 idle 102600
 done
 ",
-        ),
-    ];
-    for (words, input, (held, other, step), text) in cases {
-        let gate = Hold {
-            held,
-            other,
-            step,
-            came: AtomicU64::new(0),
-            late: AtomicU64::new(0),
-        };
-        let called = call(&rt, rt.alloc(), words, input, &gate)?;
-        assert_eq!(rt; called.sink.bytes(), text.as_bytes(), "of {words}");
-        assert_eq!(rt; called.exit, 0);
-        assert_eq!(rt; gate.late.load(SeqCst), 0);
+    ),
+];
+
+// Whether the call with a held actor has the row's text, and no actor was held for too long.
+fn is_held_so<R: Threads + Wait + Sync>(
+    rt: &R,
+    alloc: Global,
+    row: &HeldRow<'_>,
+) -> Result<bool, Fail> {
+    let (words, input, (held, other, step), text) = *row;
+    let gate = Hold {
+        held,
+        other,
+        step,
+        came: AtomicU64::new(0),
+        late: AtomicU64::new(0),
+    };
+    let called = call_with(rt, alloc, words, input, &[], ROOM, &gate)?;
+    Ok(comes_to(&called, &(0, text.as_bytes(), true)) && gate.late.load(SeqCst) == 0)
+}
+
+#[test]
+fn held_actors(rt: HostRuntime) -> Result<(), Fail> {
+    for row in &HELD {
+        assert!(rt; is_held_so(&rt, rt.alloc(), row)?, "{}", row.3);
     }
     Ok(())
 }
@@ -242,19 +255,15 @@ impl Gate for Together {
     }
 }
 
-// No order of steps in one thread passes these gates: each core has a worker of its own, and no worker has given up
-// before the last of these steps. Where there are 60, all cores are beyond the first round at the last of them, since
-// of three cores one runs a tenth of a round at least while each makes a step.
-#[test]
-fn workers_step_beside_each_other(rt: HostRuntime) -> Result<(), Fail> {
-    let split = format!(in rt.alloc(); "{SPLIT}%%\n")?;
-    // words, input, the cores that are held and at how many steps, and the last lines
-    let cases = [
-        (
-            "run 3",
-            split.as_str(),
-            (2, 1),
-            "run 3 rounds 2 cores 0 events
+// Words, a host without a script, the cores that are held and at how many steps, and the text.
+type TogetherRow<'a> = (&'a str, &'a str, (u32, u64), &'a str);
+
+const TOGETHER: [TogetherRow<'static>; 4] = [
+    (
+        "run 3",
+        SPLIT,
+        (2, 1),
+        "run 3 rounds 2 cores 0 events
 round 0 plan 0
 vcpu a offered 184680 slots 184680 shared 0 gap 41040
 vcpu b offered 184680 slots 184680 shared 31040 gap 41040
@@ -263,24 +272,24 @@ core 0 slots 307800 shared 0 idle 0
 core 1 slots 246240 shared 61560 idle 0
 done
 ",
-        ),
-        (
-            "run 1",
-            "cores = 3\n%%\n",
-            (3, 1),
-            "run 1 rounds 3 cores 0 events
+    ),
+    (
+        "run 1",
+        "cores = 3\n",
+        (3, 1),
+        "run 1 rounds 3 cores 0 events
 round 0 plan 0
 core 0 slots 0 shared 0 idle 102600
 core 1 slots 0 shared 0 idle 102600
 core 2 slots 0 shared 0 idle 102600
 done
 ",
-        ),
-        (
-            "run 1",
-            "cores = 8\n%%\n",
-            (8, 1),
-            "run 1 rounds 8 cores 0 events
+    ),
+    (
+        "run 1",
+        "cores = 8\n",
+        (8, 1),
+        "run 1 rounds 8 cores 0 events
 round 0 plan 0
 core 0 slots 0 shared 0 idle 102600
 core 1 slots 0 shared 0 idle 102600
@@ -292,26 +301,41 @@ core 6 slots 0 shared 0 idle 102600
 core 7 slots 0 shared 0 idle 102600
 done
 ",
-        ),
-        (
-            "run 6",
-            "cores = 3\nlag = 10260\nquantum = 10260\n%%\n",
-            (3, 60),
-            "run 6 rounds 3 cores 0 events
+    ),
+    (
+        "run 6",
+        "cores = 3\nlag = 10260\nquantum = 10260\n",
+        (3, 60),
+        "run 6 rounds 3 cores 0 events
 round 0 plan 0
 core 0 slots 0 shared 0 idle 615600
 core 1 slots 0 shared 0 idle 615600
 core 2 slots 0 shared 0 idle 615600
 done
 ",
-        ),
-    ];
-    for (words, input, (cores, steps), text) in cases {
-        let gate = Together::of(cores, steps);
-        let called = call(&rt, rt.alloc(), words, input, &gate)?;
-        assert_eq!(rt; called.sink.bytes(), text.as_bytes(), "of {input}");
-        assert_eq!(rt; called.exit, 0);
-        assert_eq!(rt; gate.late.load(SeqCst), 0, "of {input}");
+    ),
+];
+
+// Whether the call passes the gate and has the row's text.
+fn is_passed<R: Threads + Wait + Sync>(
+    rt: &R,
+    alloc: Global,
+    row: &TogetherRow<'_>,
+) -> Result<bool, Fail> {
+    let (words, host, (cores, steps), text) = *row;
+    let gate = Together::of(cores, steps);
+    let input = format!(in alloc; "{host}%%\n")?;
+    let called = call_with(rt, alloc, words, input.as_str(), &[], ROOM, &gate)?;
+    Ok(comes_to(&called, &(0, text.as_bytes(), true)) && gate.late.load(SeqCst) == 0)
+}
+
+// No order of steps in one thread passes these gates: each core has a worker of its own, and no worker has given up
+// before the last of these steps. Where there are 60, all cores are beyond the first round at the last of them, since
+// of three cores one runs a tenth of a round at least while each makes a step.
+#[test]
+fn workers_step_beside_each_other(rt: HostRuntime) -> Result<(), Fail> {
+    for row in &TOGETHER {
+        assert!(rt; is_passed(&rt, rt.alloc(), row)?, "{}", row.1);
     }
     Ok(())
 }
@@ -354,9 +378,8 @@ fn a_held_planner(rt: HostRuntime) -> Result<(), Fail> {
         late: AtomicU64::new(0),
         steps: AtomicU64::new(0),
     };
-    let called = call(&rt, rt.alloc(), "run 2 live", THREE, &gate)?;
-    assert_eq!(rt; called.sink.bytes(), THREE_REPORT.as_bytes());
-    assert_eq!(rt; called.exit, 0);
+    let called = call_with(&rt, rt.alloc(), "run 2 live", THREE, &[], ROOM, &gate)?;
+    assert!(rt; comes_to(&called, &(0, THREE_REPORT.as_bytes(), true)));
     assert_eq!(rt; gate.late.load(SeqCst), 0);
     // one for each change, and one that finds that all are planned
     assert_eq!(rt; gate.steps.load(SeqCst), 0x0101_0101);

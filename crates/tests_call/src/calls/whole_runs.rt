@@ -146,32 +146,24 @@ name = \"x\"
 admitted = false
 ";
 
+const FEW: &str = "7 block b\n8 wake x\n99999 change leave c\n102599 wake b\n";
+
+// A host, a script, rounds, and the last line.
+const RUNS: [(&str, &str, u32, &str); 5] = [
+    (SPLIT, "", 1, "posted 0\n"),
+    (SPLIT, BUSY, 2, "posted 9\n"),
+    (SPLIT, BUSY, 3, "posted 9\n"),
+    (CLOSE, "", 1, "posted 0\n"),
+    (CLOSE, FEW, 1, "posted 4\n"),
+];
+
 #[test]
-fn runs_of_a_split_vcpu_end_whole(rt: HostRuntime) -> Result<(), Fail> {
-    // script, rounds, and the last line
-    let cases = [
-        ("", 1, "posted 0\n"),
-        (BUSY, 2, "posted 9\n"),
-        (BUSY, 3, "posted 9\n"),
-    ];
-    for (script, rounds, last) in cases {
+fn runs_end_whole(rt: HostRuntime) -> Result<(), Fail> {
+    for (host, script, rounds, last) in RUNS {
         assert!(rt;
-            ends_whole(&rt, rt.alloc(), SPLIT, script, rounds, last)?,
+            ends_whole(&rt, rt.alloc(), host, script, rounds, last)?,
             "of {script}"
         );
     }
-    Ok(())
-}
-
-#[test]
-fn a_run_of_close_cores_ends_whole(rt: HostRuntime) -> Result<(), Fail> {
-    assert!(rt; ends_whole(&rt, rt.alloc(), CLOSE, "", 1, "posted 0\n")?);
-    Ok(())
-}
-
-#[test]
-fn a_run_of_close_cores_with_events_ends_whole(rt: HostRuntime) -> Result<(), Fail> {
-    let script = "7 block b\n8 wake x\n99999 change leave c\n102599 wake b\n";
-    assert!(rt; ends_whole(&rt, rt.alloc(), CLOSE, script, 1, "posted 4\n")?);
     Ok(())
 }
