@@ -2,7 +2,7 @@
 -- Source: the rules of this project.
 use Rattle.std.specs.Prelude.{ℕ, ◌+◌, List, [], ◌∷◌, ◌++◌}
 use Rattle.script_doc.specs.declared.event.Act.{Act}
-use Rattle.script_doc.specs.declared.event.Act.TheVariants.{Wake, Block, Change, Burst}
+use Rattle.script_doc.specs.declared.event.Act.TheVariants.{Burst}
 use Rattle.script_doc.specs.declared.event.Event.{Event}
 
 -- the event of this number and tick brings so many ticks of work for the vCPU
@@ -14,10 +14,8 @@ pub record ScriptBurst : Type 0 where
 
 -- the burst that an event of this act is, if it is one
 abbrev pub bursts_at : ℕ → ℕ → Act → List ScriptBurst
-bursts_at event tick (Wake vcpu) = []
-bursts_at event tick (Block vcpu) = []
-bursts_at event tick (Change edits) = []
 bursts_at event tick (Burst vcpu work) = (record { event = event; tick = tick; vcpu = vcpu; work = work }) ∷ []
+bursts_at event tick act = []
 
 -- the bursts among events, of which the first has this number
 abbrev pub bursts_from : ℕ → List Event → List ScriptBurst

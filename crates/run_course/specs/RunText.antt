@@ -4,7 +4,7 @@ use Rattle.tab_core.specs.declared.host.Host.{Host}
 use Rattle.tab_core.specs.declared.stint.Stint.{Stint}
 use Rattle.tab_words.specs.Texts.{texts_below}
 use Rattle.tab_words.specs.declared.command.RunMode.{RunMode}
-use Rattle.tab_words.specs.declared.command.RunMode.TheVariants.{Report, Trace, Burst, Live}
+use Rattle.tab_words.specs.declared.command.RunMode.TheVariants.{Trace}
 use Rattle.vcpu_names.specs.Names.{names_of}
 use Rattle.table_form.specs.Running.Courses.{CourseView}
 use Rattle.plan_book.specs.declared.outcome.Outcome.{Outcome}
@@ -18,10 +18,8 @@ traces names course stints = texts_below (λ c. trace_text names course c (stint
 
 -- the trace before the report; the lines of bursts, which come before a report too, are the top call's
 abbrev pub trace_part : RunMode → List (List ℕ) → CourseView → (ℕ → List Stint) → List ℕ
-trace_part Report names course stints = []
 trace_part Trace names course stints = traces names course stints
-trace_part Burst names course stints = []
-trace_part Live names course stints = []
+trace_part mode names course stints = []
 
 -- a run of so many rounds of the course of a host, whose script's changes are these; `stints` has the
 -- stints of each core

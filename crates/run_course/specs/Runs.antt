@@ -4,7 +4,7 @@ use Rattle.std.specs.Prelude.{◌≡◌, ℕ, ◌<◌, ◌≤◌, All, Bool, tru
 use Rattle.tab_core.specs.declared.host.Host.{Host}
 use Rattle.tab_core.specs.declared.stint.Stint.{Stint}
 use Rattle.tab_words.specs.declared.command.RunMode.{RunMode}
-use Rattle.tab_words.specs.declared.command.RunMode.TheVariants.{Report, Trace, Burst, Live}
+use Rattle.tab_words.specs.declared.command.RunMode.TheVariants.{Trace, Burst}
 use Rattle.table_form.specs.Running.Courses.{CourseView, IsCourse, outline_of}
 use Rattle.table_form.specs.Running.Complete.{IsComplete}
 use Rattle.table_form.specs.Promises.Run.{KeepsPromises}
@@ -48,10 +48,9 @@ pub record IsReportOfState (course : CourseView) (s : State) (report : ReportVie
 
 -- all stints are kept: they are written, or looked through for bursts
 abbrev pub keeps_stints : RunMode → Bool
-keeps_stints Report = false
 keeps_stints Trace = true
 keeps_stints Burst = true
-keeps_stints Live = false
+keeps_stints mode = false
 
 -- all stints are to be kept, and may be more than can be
 pub record IsTooLong (rounds : ℕ) (mode : RunMode) (course : CourseView) (bound : ℕ) : Type 0 where
