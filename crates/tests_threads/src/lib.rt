@@ -6,5 +6,3 @@
 mod actors;
 #[cfg(test)]
 mod board;
-#[cfg(test)]
-mod workers;
