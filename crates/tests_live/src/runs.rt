@@ -7,11 +7,11 @@ use core_workers::FreeGate;
 use live_plan::{CellShelf, Found, LiveBook, LiveCrew, Shelf, run_live};
 use plan_book::Outcome;
 use round_words::RoundBoard;
-use std::alloc::Global;
+use std::alloc::{AllocError, Global};
 use std::sync::Wait;
 use std::test::Fail;
 use std::thread::Threads;
-use tab_core::CoreNo;
+use tab_core::{CoreNo, NoMemory};
 
 const ROWS: [Row; 6] = [
     (1, 3, 102_600, 2, 12),
@@ -64,9 +64,18 @@ fn try_run<R: Threads + Wait + Sync>(
     met: &mut Met,
 ) -> Result<(), Fail> {
     let crew = run_crew(rt, alloc, scene)?;
-    judge_crew(scene, &crew, met)?;
-    judge_cells(scene)?;
-    Ok(())
+    match judge_run(scene, &crew, met) {
+        Ok(()) => Ok(()),
+        Err(broken) => Err(Fail::from(broken)),
+    }
+}
+
+// The crew ran by the rules, and what was made of each change is what planning anew makes of it.
+fn judge_run(scene: &Scene, crew: &LiveCrew<'_>, met: &mut Met) -> Result<(), Broken>
+    requires { length crew.now.members ≡ scene.now.live.outline.cores }
+{
+    judge_crew(scene, crew, met)?;
+    judge_cells(scene)
 }
 
 // A run of the scene, in which memory lasted.
@@ -74,18 +83,18 @@ fn run_crew<'a, R: Threads + Wait + Sync>(
     rt: &R,
     alloc: Global,
     scene: &'a Scene,
-) -> Result<LiveCrew<'a>, Fail>
+) -> Result<LiveCrew<'a>, NoMemory>
     ensures { IfOk result (λ crew. length crew.members ≡ scene.now.live.outline.cores) }
 {
     let book = &scene.live;
-    let crew = LiveCrew::make(rt, alloc, book, scene.rounds)?;
     let (board, mut seat) = RoundBoard::make(alloc)?;
+    let crew = LiveCrew::make(rt, alloc, book, scene.rounds)?;
     let outline = book.outline();
     board.start(&mut seat, outline.lag(), outline.cores(), outline.count());
     let (_, crew, stopped) = run_live(rt, alloc, &board, seat, crew, book, &FreeGate);
     match stopped {
         None => Ok(crew),
-        Some(_) => Err(Fail::from("no memory")),
+        Some(_) => Err(AllocError),
     }
 }
 

@@ -145,12 +145,12 @@ fn stint(from: u32, end: u32, count: u32) -> LiveAnswer {
 
 // A core runs for the lag at most, and up to the lag beyond the event. There it waits for the controller where its shelf
 // knows nothing of the change, and stops where it knows that memory ran out for it.
-fn a_core_waits_or_stops(alloc: Global, book: &LiveBook) -> Result<bool, Fail>
+fn a_core_waits_or_stops(alloc: Global, book: &LiveBook) -> Result<bool, NoMemory>
     requires { length book.now.changes ≡ 1 }
 {
-    let (board, mut seat, mut actor, _) = start(alloc, book)?;
     let nothing = listed(alloc, book, None)?;
     let blank = listed(alloc, book, Some(Made::blank(alloc, book, 0)?))?;
+    let (board, mut seat, mut actor, _) = start(alloc, book)?;
     let mut empty = ListShelf::of(book, &nothing);
     let mut stopped = ListShelf::of(book, &blank);
     let early = stint(0, 20_000, 0);
@@ -165,15 +165,15 @@ fn a_core_waits_or_stops(alloc: Global, book: &LiveBook) -> Result<bool, Fail>
 // A change that is posted is needed by the core that enters its round. Where its shelf knows nothing of the change, or
 // that memory ran out for it, the core runs nothing; then it finds the plan, in which the vCPU has a quarter of 51,300
 // ticks.
-fn a_core_needs_what_is_posted(alloc: Global, book: &LiveBook) -> Result<bool, Fail>
+fn a_core_needs_what_is_posted(alloc: Global, book: &LiveBook) -> Result<bool, NoMemory>
     requires { length book.now.changes ≡ 1 }
 {
-    let (board, mut seat, mut actor, mut controller) = start(alloc, book)?;
     let mut made = Made::blank(alloc, book, 0)?;
     made.fill(alloc);
     let nothing = listed(alloc, book, None)?;
     let blank = listed(alloc, book, Some(Made::blank(alloc, book, 0)?))?;
     let planned = listed(alloc, book, Some(made))?;
+    let (board, mut seat, mut actor, mut controller) = start(alloc, book)?;
     let mut empty = ListShelf::of(book, &nothing);
     let mut stopped = ListShelf::of(book, &blank);
     let mut full = ListShelf::of(book, &planned);
@@ -209,11 +209,11 @@ fn post<'a, H: Shelf<'a>>(
 }
 
 // A controller posts no change for which memory ran out.
-fn a_controller_stops(alloc: Global, book: &LiveBook) -> Result<bool, Fail>
+fn a_controller_stops(alloc: Global, book: &LiveBook) -> Result<bool, NoMemory>
     requires { length book.now.changes ≡ 1 }
 {
-    let (board, mut seat, _, mut controller) = start(alloc, book)?;
     let blank = listed(alloc, book, Some(Made::blank(alloc, book, 0)?))?;
+    let (board, mut seat, _, mut controller) = start(alloc, book)?;
     let mut shelf = ListShelf::of(book, &blank);
     let wanted = LiveControl::Stopped { change: 0 };
     let stops = posts(&board, &mut seat, &mut controller, book, &mut shelf, wanted);
@@ -221,9 +221,9 @@ fn a_controller_stops(alloc: Global, book: &LiveBook) -> Result<bool, Fail>
 }
 
 // A controller whose shelf over the cells misses a change twice posts it once the planner has put its value.
-fn a_controller_finds_what_it_missed(alloc: Global, book: &LiveBook) -> Result<bool, Fail> {
-    let (board, mut seat, _, mut controller) = start(alloc, book)?;
+fn a_controller_finds_what_it_missed(alloc: Global, book: &LiveBook) -> Result<bool, NoMemory> {
     let mut planner = LivePlanner::make(alloc, book)?;
+    let (board, mut seat, _, mut controller) = start(alloc, book)?;
     let mut own = CellShelf::of(book);
     let mut shelf = CellShelf::of(book);
     let missed = LiveControl::NotMade { change: 0 };
