@@ -1,6 +1,6 @@
 -- A line states one event at most, and none where a name of it is no vCPU's. The grammar of lines as they are read
 -- states the same events.
-use Rattle.std.proofs.Common.{◌≡◌, inl, inr, ℕ, zero, suc, ◌<◌, ◌≤◌, List, [], ◌∷◌, ◌++◌, append_assoc, length, length-append, subst, codes, decimal, flat_map, map, Some, slice_get, refl, sym, ap, ◌∙◌, arith}
+use Rattle.std.proofs.Common.{◌≡◌, inl, inr, ℕ, zero, suc, ◌<◌, ◌≤◌, List, [], ◌∷◌, ◌++◌, length, codes, decimal, flat_map, map, Some, slice_get, refl, sym, ap, ◌∙◌, arith}
 use Rattle.std.proofs.lemmas.Fmt.{decimal_injective}
 use Rattle.std.proofs.lemmas.List.{length-map}
 use Rattle.std.proofs.lemmas.List.Elements.{All-cons, All-head, All-tail}
@@ -15,8 +15,8 @@ use Rattle.tab_core.specs.declared.vcpu.Vcpu.{Vcpu}
 use Rattle.tab_words.proofs.CommandLemmas.{other_word}
 use Rattle.vcpu_names.specs.Names.{IsUnknown, name_at, names_of}
 use Rattle.script_doc.specs.declared.event.TheConstants.{MAX_WORK}
-use Rattle.script_doc.specs.Events.{IsActWithin, IsEvent, IsGoodAct, IsNamed, IsNoLine, IsUnknownLine, act_words, edit_words}
-use Rattle.script_doc.specs.Inside.NamedLines.{blocks, bursts, changes, edit_name, HasUnknown, HasUnknownEdit, IsGoodNamedAct, IsGoodNamedEdit, IsNamedEvent, IsNoNamedLine, IsUnknownNamedLine, leaves, named_act, named_act_words, named_edit, named_edit_words, NamedAct, NamedEdit, sets, wakes}
+use Rattle.script_doc.specs.Events.{IsActWithin, IsEvent, IsGoodAct, IsNamed, IsNoLine, act_words, edit_words}
+use Rattle.script_doc.specs.Inside.NamedLines.{blocks, bursts, changes, HasUnknown, HasUnknownEdit, IsGoodNamedAct, IsGoodNamedEdit, IsNamedEvent, IsNoNamedLine, IsUnknownNamedLine, leaves, named_act, named_act_words, named_edit, named_edit_words, NamedAct, NamedEdit, sets, wakes}
 use Rattle.script_doc.specs.declared.event.Act.{Act}
 use Rattle.script_doc.specs.declared.event.Act.TheVariants.{Wake, Block, Change, Burst}
 use Rattle.script_doc.specs.declared.event.Event.{Event}
@@ -316,135 +316,3 @@ one_event names words a b distinct is also =
 -- a line that is read as no event states none
 pub no_line : (words : List (List ℕ)) → IsNoNamedLine words → IsNoLine words
 no_line words none names event is = none event.tick (named_act names event.act) (as_named names words event is).line
-
--- the names of edits
-abbrev names_in : List NamedEdit → List (List ℕ)
-names_in edits = map edit_name edits
-
--- the edit of the vCPU of this number
-abbrev numbered_edit : (k : ℕ) (edit : NamedEdit) → IsGoodNamedEdit edit → Edit
-numbered_edit k (sets name share latency) good = Set k (record {
-  share_ppm = share;
-  latency_ns = latency;
-  shares = good.1;
-  whole = good.2;
-  bounded = good.3;
-})
-numbered_edit k (leaves name) good = Leave k
-
--- the edits of the vCPUs of these numbers and up
-abbrev numbered : (k : ℕ) (edits : List NamedEdit) → All IsGoodNamedEdit edits → List Edit
-numbered k [] good = []
-numbered k (edit ∷ edits) good =
-    numbered_edit k edit (All-head IsGoodNamedEdit edit edits good)
-    ∷ numbered (suc k) edits (All-tail IsGoodNamedEdit edit edits good)
-
--- a name in the middle of names is that of its number
-name_between : (front : List (List ℕ)) (name : List ℕ) (back : List (List ℕ))
-    → name_at (front ++ name ∷ back) (length front) ≡ name
-name_between [] name back = refl
-name_between (first ∷ front) name back = name_between front name back
-
--- an edit of the number of its name is written as it is
-numbered_words : (front back : List (List ℕ)) (edit : NamedEdit) (good : IsGoodNamedEdit edit)
-    → edit_words (front ++ edit_name edit ∷ back) (numbered_edit (length front) edit good) ≡ named_edit_words edit
-numbered_words front back (sets name share latency) good =
-    ap (λ n. codes "set" ∷ n ∷ decimal share ∷ decimal latency ∷ []) (name_between front name back)
-numbered_words front back (leaves name) good =
-    ap (λ n. codes "leave" ∷ n ∷ []) (name_between front name back)
-
--- the name of a good edit has the form of names
-name_of_good : (edit : NamedEdit) → IsGoodNamedEdit edit → IsName (edit_name edit)
-name_of_good (sets name share latency) good = good.0
-name_of_good (leaves name) good = good
-
--- the vCPU of an edit with a number
-numbered_vcpu : (k : ℕ) (edit : NamedEdit) (good : IsGoodNamedEdit edit) → vcpu_of (numbered_edit k edit good) ≡ k
-numbered_vcpu k (sets name share latency) good = refl
-numbered_vcpu k (leaves name) good = refl
-
--- what edits say if their names are those of vCPUs, by number
-record AreNumbered (names : List (List ℕ)) (k : ℕ) (edits : List NamedEdit) (good : All IsGoodNamedEdit edits)
-    : Type 0 where
-  words : flat_map (edit_words names) (numbered k edits good) ≡ flat_map named_edit_words edits
-  named : All (λ edit. IsNamed names (vcpu_of edit)) (numbered k edits good)
-  size : length (numbered k edits good) ≡ length edits
-
--- edits say so with their own names
-are_numbered : (front : List (List ℕ)) (edits : List NamedEdit) (good : All IsGoodNamedEdit edits)
-    → AreNumbered (front ++ names_in edits) (length front) edits good
-are_numbered front [] good = record { words = refl; named = λ k d low. absurd (omega arith); size = refl }
-are_numbered front (edit ∷ edits) good =
-    let names = front ++ edit_name edit ∷ names_in edits in
-    let first = All-head IsGoodNamedEdit edit edits good in
-    let others = All-tail IsGoodNamedEdit edit edits good in
-    let here = numbered_edit (length front) edit first in
-    let size = length-append front (edit_name edit ∷ []) in
-    let rest : AreNumbered names (suc (length front)) edits others =
-    subst (λ n. AreNumbered names n edits others) (omega (arith, size))
-    (subst (λ ns. AreNumbered ns (length (front ++ edit_name edit ∷ [])) edits others)
-    (append_assoc front (edit_name edit ∷ []) (names_in edits))
-    (are_numbered (front ++ edit_name edit ∷ []) edits others)) in
-    record {
-      words = ap (λ ws. ws ++ flat_map (edit_words names) (numbered (suc (length front)) edits others))
-          (numbered_words front (names_in edits) edit first)
-          ∙ ap (λ ws. named_edit_words edit ++ ws) rest.words;
-      named = All-cons (λ e. IsNamed names (vcpu_of e)) here (numbered (suc (length front)) edits others)
-          (rw (numbered_vcpu (length front) edit first) (
-            (let all = length-append front (edit_name edit ∷ names_in edits) in omega (arith, all)),
-            subst IsName (sym (name_between front (edit_name edit) (names_in edits))) (name_of_good edit first),
-          )) rest.named;
-      size = ap suc rest.size;
-    }
-
--- the names and the act of vCPUs of these names, as a line says it
-record IsNumbered (named : NamedAct) : Type 0 where
-  names : List (List ℕ)
-  act : Act
-  words : act_words names act ≡ named_act_words named
-  good : IsGoodAct names act
-
--- each line that can be read is that of an event for its own names
-is_numbered : (named : NamedAct) → IsGoodNamedAct named → IsNumbered named
-is_numbered (wakes name) good = record {
-  names = name ∷ [];
-  act = Wake 0;
-  words = refl;
-  good = (omega arith, good);
-}
-is_numbered (blocks name) good = record {
-  names = name ∷ [];
-  act = Block 0;
-  words = refl;
-  good = (omega arith, good);
-}
-is_numbered (bursts name work) good = record {
-  names = name ∷ [];
-  act = Burst 0 work;
-  words = refl;
-  good = ((omega arith, good.0), good.1, good.2);
-}
-is_numbered (changes edits) good =
-    let are = are_numbered [] edits good.1 in
-    let some = good.0 in
-    record {
-      names = names_in edits;
-      act = Change (numbered 0 edits good.1);
-      words = ap (λ ws. codes "change" ∷ ws) are.words;
-      good = (omega (arith, are.size, some), are.named);
-    }
-
--- a line that is read with an unknown name is one for other names
-pub unknown_line : (names words : List (List ℕ)) → IsUnknownNamedLine names words → IsUnknownLine names words
-unknown_line names words is =
-    let own = is_numbered is.act is.line.good in
-    record {
-      others = own.names;
-      event = record { tick = is.tick; act = own.act };
-      line = record {
-        written = is.line.written ∙ ap (λ ws. decimal is.tick ∷ ws) (sym own.words);
-        short = is.line.short;
-        good = own.good;
-      };
-      unknown = λ event of. known_line names words event is (as_named names words event of);
-    }

@@ -7,3 +7,4 @@ pub mod ScriptLemmas
 pub mod SkippedLemmas
 pub mod StatementLemmas
 pub mod StepsLemmas
+pub mod UnknownLemmas

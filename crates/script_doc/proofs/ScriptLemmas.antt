@@ -14,7 +14,8 @@ use Rattle.tab_words.specs.Words.{words_of}
 use Rattle.vcpu_names.specs.Names.{names_of}
 use Rattle.script_doc.specs.Events.{IsActWithin, IsEvent, is_change}
 use Rattle.script_doc.specs.Inside.NamedLines.{IsNamedEvent, IsNoNamedLine, IsUnknownNamedLine}
-use Rattle.script_doc.proofs.EventsLemmas.{as_named, no_line, of_named, unknown_line}
+use Rattle.script_doc.proofs.EventsLemmas.{as_named, no_line, of_named}
+use Rattle.script_doc.proofs.UnknownLemmas.{unknown_line}
 use Rattle.script_doc.specs.Inside.Reading.{fault_at}
 use Rattle.script_doc.specs.Script.{AreEvents, AreWithin, IsScript, changes_in}
 use Rattle.script_doc.specs.ScriptFaults.{Before, HasFault, IsBad, NamesNobody, BreaksLimit, IsFirstFault, broken_limit, last_tick, left_by}
