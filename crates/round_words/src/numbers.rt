@@ -21,7 +21,7 @@ pub(crate) struct Numbers {
     /// The clock of each core that the seat holds. Of another the last clock that one of the seat's actors heard, or 0
     /// where none heard it since the core or that actor was in another seat.
     pub(crate) clocks: [u32; 32],
-    /// A tick that none of the clocks is below.
+    /// A tick that none of the cores' clocks is below.
     pub(crate) floor: u32,
     /// What each core saw last, or 0 where it has seen nothing since its last stint.
     pub(crate) sights: [u32; 32],
@@ -61,14 +61,14 @@ fn posted_of(mine: u32, theirs: u32, held: u64) -> u32
     if (held >> 32) & 1 == 0 { theirs } else { mine }
 }
 
-// The least of the numbers.
+// The least of the first so many numbers.
 #[cold]
 #[inline(never)]
-fn least_of(clocks: &[u32; 32]) -> u32
-    ensures { (d : ℕ) → d < 32 → result ≤ slice_index clocks.now d }
+fn least_of(clocks: &[u32; 32], count: u32) -> u32
+    ensures { (d : ℕ) → d < 32 → d < count → result ≤ slice_index clocks.now d }
 {
     let mut least = u32::MAX;
-    for at in 0..32 {
+    for at in 0..(count as usize).min(32) {
         least = least.min(clocks[at]);
     }
     least
@@ -84,18 +84,6 @@ fn lower_to(floor: &mut u32, tick: u32)
     }
 }
 
-// The clocks at the start: 0 for each of the first so many, and after them what is above every clock, so that the
-// least of all is the least of theirs.
-fn first_clocks(cores: u32) -> [u32; 32]
-    ensures { (c : ℕ) → c < cores → slice_index result c ≡ 0 }
-{
-    let mut clocks = [0; 32];
-    for core in cores..32 {
-        clocks[core as usize] = u32::MAX;
-    }
-    clocks
-}
-
 impl Numbers {
     // Those of new parts, of the actors whose bit is set, at a board with so many cores.
     pub(crate) fn new(held: u64, cores: u32) -> Numbers
@@ -103,14 +91,14 @@ impl Numbers {
         ensures cores { result.cores ≡ cores }
         ensures posted { result.posted ≡ 0 }
         ensures floor { result.floor ≡ 0 }
-        ensures clocks { (c : ℕ) → c < cores → slice_index result.clocks c ≡ 0 }
+        ensures clocks { result.clocks ≡ replicate 32 0 }
         ensures sights { result.sights ≡ replicate 32 0 }
     {
         Numbers {
             held,
             cores,
             posted: 0,
-            clocks: first_clocks(cores),
+            clocks: [0; 32],
             floor: 0,
             sights: [0; 32],
             useds: [0; 128],
@@ -158,7 +146,7 @@ impl Numbers {
             → slice_index self.new.clocks c ≡ 0 }
         ensures floor { self.new.floor ≡ 0 }
     {
-        take_over(&mut self.clocks, &first_clocks(self.cores), self.held);
+        take_over(&mut self.clocks, &[0; 32], self.held);
         self.floor = 0;
     }
 
@@ -203,7 +191,7 @@ impl Numbers {
         if tick <= self.floor {
             return true;
         }
-        self.floor = least_of(&self.clocks);
+        self.floor = least_of(&self.clocks, self.cores);
         tick <= self.floor
     }
 

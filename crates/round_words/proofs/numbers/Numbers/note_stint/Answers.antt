@@ -7,7 +7,7 @@ use Rattle.round_words.proofs.numbers.Numbers.note_stint.Goals as goal
 pub returns : goal.returns
 returns c = λ v s has is agrees. let at = c.args.core in
     agree_same c.args.self.now _ v at (with_stint (part v at) s) agrees has (λ k. as_before (part v at) k) refl refl
-    (floor_set c.args.self.now.clocks c.args.self.now.floor _ at c.args.end (omega arith) agrees.floor_is (omega arith) (omega arith))
+    (floor_set c.args.self.now.clocks c.args.self.now.cores c.args.self.now.floor _ at c.args.end (omega arith) agrees.floor_is (omega arith) (omega arith))
     (λ e. absurd (omega (arith, c.requires.core))) (λ away. refl)
     (λ lt. word_here c.args.self.now.clocks at c.args.end (omega arith) ∙ sym is)
     (λ k away. word_else c.args.self.now.clocks at k c.args.end away)
