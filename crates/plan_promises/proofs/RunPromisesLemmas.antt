@@ -39,6 +39,7 @@ run_promises rounds host events course s of ok promises complete =
       promises = record {
         whole = complete.clocks;
         in_time = λ c core at. (promises.invariant.cores c core at).timeline.contiguous;
+        some_ticks = λ c k core st at has. ((promises.invariant.cores c core at).timeline.each k st has).some_ticks;
         entered = complete_counts course rounds s ok promises.invariant complete;
         counts = λ r d at.
             (let posted = promises.invariant.decided_posted r d at in

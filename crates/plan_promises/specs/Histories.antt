@@ -21,8 +21,8 @@ abbrev pub AreHostsOf : Host → List Event → (ℕ → Host) → Type 0
 AreHostsOf host events hosts = (n : ℕ) → n ≤ length events
     → (known : BookState) × IsKnownAfter host events n known × (hosts n ≡ known.host)
 
--- what an event makes of a host and of its set of runnable vCPUs: a wake or a block sets the vCPU's flag, and
--- a change edits the host, or is refused and leaves it as it is
+-- what an event makes of a host and of its set of runnable vCPUs: a wake sets the vCPU's flag, a block clears it, a
+-- burst changes nothing, and a change edits the host, or is refused and leaves it as it is
 abbrev pub Follows : Act → Host → List Bool → Host → List Bool → Type 0
 Follows (Wake vcpu) host flags next flags' = (next ≡ host) × (flags' ≡ slice_set flags vcpu true)
 Follows (Block vcpu) host flags next flags' = (next ≡ host) × (flags' ≡ slice_set flags vcpu false)
@@ -38,7 +38,7 @@ pub record IsPlanOn (host : Host) (plan : PlanView) : Type 0 where
   pub capped : plan.capped ≡ capped_set host.vcpus
 
 -- The hosts after each count of first events, and the course: it has the host's cores and lag, the events'
--- ticks, who is runnable after each count, and a plan
+-- ticks, and after each count who is runnable, and a plan on the cores and with the caps of the first host
 pub record IsHistory (host : Host) (events : List Event) (hosts : ℕ → Host) (course : CourseView) : Type 0 where
   pub cores : course.cores ≡ host.cores
   pub lag : course.lag ≡ host.lag

@@ -1,6 +1,6 @@
 -- What a run promises to whoever was sold a vCPU, in the fewest words.
 -- Source: the rules of this project.
-use Rattle.std.specs.Prelude.{◌≡◌, ℕ, suc, ◌*◌, ◌/◌, ◌≤◌, List, Some, length, slice_get}
+use Rattle.std.specs.Prelude.{◌≡◌, ℕ, suc, ◌*◌, ◌/◌, ◌<◌, ◌≤◌, List, Some, length, slice_get}
 use Rattle.tab_core.specs.Timelines.{AreContiguous}
 use Rattle.tab_core.specs.declared.TheConstants.{ROUND}
 use Rattle.tab_core.specs.declared.host.Host.{Host}
@@ -15,8 +15,8 @@ use Rattle.script_doc.specs.declared.event.Event.{Event}
 use Rattle.plan_promises.specs.Histories.{IsHistory}
 use Rattle.plan_promises.specs.Runs.{AreTasksSold, SharesKept, WaitsWithinLatency}
 
--- Every core runs to the end of so many rounds, and its stints follow one another in time. Each round was entered with
--- a count of first events, which never falls and is fresh at the round's begin. At each tick all cores use the plan of
+-- Every core runs to the end of so many rounds, in stints of a tick or more that follow one another in time. Each
+-- round was entered with a count of first events, which never falls and is fresh at the round's begin. At each tick all cores use the plan of
 -- the count of the tick's round. No vCPU runs on two cores at one tick. Each vCPU that is reserved in a round's host is
 -- offered its share there, nobody else has a task, and each wait between offers is within the greater of the vCPU's
 -- latencies at its two ends. Each stint goes by a seen count of events, which never falls along a core's stints and is
@@ -26,6 +26,8 @@ use Rattle.plan_promises.specs.Runs.{AreTasksSold, SharesKept, WaitsWithinLatenc
 pub record RunPromises (rounds : ℕ) (hosts : ℕ → Host) (tick_ns : ℕ) (course : CourseView) (s : State) : Type 0 where
   pub whole : (c : ℕ) (core : CoreState) → IsCore s c core → core.clock ≡ rounds * ROUND
   pub in_time : (c : ℕ) (core : CoreState) → IsCore s c core → AreContiguous 0 core.stints core.clock
+  pub some_ticks : (c k : ℕ) (core : CoreState) (st : Stint) → IsCore s c core → slice_get core.stints k ≡ Some st
+      → st.from < st.end
   pub entered : length s.decided ≡ rounds
   pub counts : (r d : ℕ) → slice_get s.decided r ≡ Some d → d ≤ length course.ticks
   pub rises : (r a b : ℕ) → slice_get s.decided r ≡ Some a → slice_get s.decided (suc r) ≡ Some b → a ≤ b

@@ -51,7 +51,8 @@ pub record IsWithinLatency (hosts : ℕ → Host) (tick_ns : ℕ) (decided : Lis
   pub after_is : IsReservedIn hosts decided (last / ROUND) v after
   pub short : tick_ns * (suc last - first) ≤ max before.latency_ns after.latency_ns
 
--- each wait of a vCPU between offers is within the greater of its latencies at the two ends
+-- each wait of a vCPU, through which it has a task and is offered nothing, is within the greater of its latencies at
+-- the two ends
 abbrev pub WaitsWithinLatency : (ℕ → Host) → ℕ → CourseView → State → Type 0
 WaitsWithinLatency hosts tick_ns course s = (v first last : ℕ) → IsGap course s.decided v first last
     → IsWithinLatency hosts tick_ns s.decided v first last

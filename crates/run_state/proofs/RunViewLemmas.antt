@@ -109,9 +109,9 @@ module _ (course : CourseView) (rounds : ℕ) (v : View) (run : IsRunView course
       found.1 ∙ some_count found.0 e.used (sym count.used ∙ one)
 
   -- what came before a tick by the floors came at most the lag after it
-  none_later : (count x : ℕ) → count ≤ length (floors_of v) → FloorsUpTo (floors_of v) count x
+  none_beyond : (count x : ℕ) → count ≤ length (floors_of v) → FloorsUpTo (floors_of v) count x
       → (i : ℕ) → i < count → tick_at course i ≤ x + course.lag
-  none_later count x few before i lt =
+  none_beyond count x few before i lt =
       let floor = run.floors.each i (omega arith) in
       let low = before i lt in
       omega (arith, floor, low)
@@ -133,7 +133,7 @@ module _ (course : CourseView) (rounds : ℕ) (v : View) (run : IsRunView course
       (part v c).entries r e at mine.floors.fits.entered in
       subst (λ (k : ℕ). IsFresh course e.seen (k * ROUND)) (mine.own.timeline.numbered r e at) (record {
         has = mine.agrees.timely.entered r e at;
-        none_later = none_later e.seen (e.round * ROUND) (entry_seen c r e lt at) before;
+        none_beyond = none_beyond e.seen (e.round * ROUND) (entry_seen c r e lt at) before;
       })
 
   -- a stint's seen count was posted, and fresh
@@ -149,7 +149,7 @@ module _ (course : CourseView) (rounds : ℕ) (v : View) (run : IsRunView course
         seen_posted = seen;
         fresh = record {
           has = mine.agrees.timely.began k s at;
-          none_later = none_later s.seen s.from seen before;
+          none_beyond = none_beyond s.seen s.from seen before;
         };
         dispatch = mine.agrees.dispatched k s at;
       }
@@ -177,7 +177,7 @@ module _ (course : CourseView) (rounds : ℕ) (v : View) (run : IsRunView course
       subst (CoversEarlier p) last.1 (last_passes (CoversEarlier p) p.sights last.0 mine.own.sights) in
       record {
         seen_posted = few;
-        fresh = record { has = last.2; none_later = λ i below. events_near c lt i (omega (arith, few)) };
+        fresh = record { has = last.2; none_beyond = λ i below. events_near c lt i (omega (arith, few)) };
         stints = λ k s at. at_place (λ (x : Stint). x.seen ≤ n) p.stints k s at covers.stints;
         counts = λ r d h past.
             let e = element_at p.entries r (omega (arith, mine.own.timeline.reach)) in

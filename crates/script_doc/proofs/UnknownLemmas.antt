@@ -1,4 +1,4 @@
--- A line names a vCPU that the host lacks: by the grammar as it is read exactly where some other names make it an
+-- A line names a vCPU that isn't the host's: by the grammar as it is read exactly where some other names make it an
 -- event and the host's don't.
 use Rattle.std.proofs.Common.{◌≡◌, ◌⊎◌, inl, inr, ℕ, zero, suc, ◌<◌, List, [], ◌∷◌, ◌++◌, append_assoc, length, length-append, subst, Bool, true, false, codes, decimal, flat_map, map, refl, sym, ap, ◌∙◌, arith}
 use Rattle.std.proofs.lemmas.List.Elements.{All-cons, All-head, All-tail}

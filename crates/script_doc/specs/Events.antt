@@ -10,14 +10,14 @@ use Rattle.script_doc.specs.declared.event.Act.{Act}
 use Rattle.script_doc.specs.declared.event.Act.TheVariants.{Wake, Block, Change, Burst}
 use Rattle.script_doc.specs.declared.event.Event.{Event}
 
--- the words of an edit: `set NAME SHARE LATENCY` or `leave NAME`. That the two numbers are in their ranges is a fact
--- of the type `Reservation`
+-- the words of an edit: `set NAME SHARE LATENCY` or `leave NAME`. That a share is from 1 to 1000000 and a latency at
+-- most 1000000000000 is a fact of the type `Reservation`
 abbrev pub edit_words : List (List ℕ) → Edit → List (List ℕ)
 edit_words names (Set vcpu reservation) = codes "set" ∷ name_at names vcpu
     ∷ decimal reservation.share_ppm ∷ decimal reservation.latency_ns ∷ []
 edit_words names (Leave vcpu) = codes "leave" ∷ name_at names vcpu ∷ []
 
--- the words of what happens: `wake NAME`, `block NAME`, `change` and edits, or `burst NAME WORK`
+-- the words of what happens: `wake NAME`, `block NAME`, `change` and one or more edits, or `burst NAME WORK`
 abbrev pub act_words : List (List ℕ) → Act → List (List ℕ)
 act_words names (Wake vcpu) = codes "wake" ∷ name_at names vcpu ∷ []
 act_words names (Block vcpu) = codes "block" ∷ name_at names vcpu ∷ []
@@ -28,8 +28,8 @@ act_words names (Burst vcpu work) = codes "burst" ∷ name_at names vcpu ∷ dec
 abbrev pub IsNamed : List (List ℕ) → ℕ → Type 0
 IsNamed names vcpu = (vcpu < length names) × IsName (name_at names vcpu)
 
--- what happens is of vCPUs with names; a change has one edit at least, and a burst no more work than the longest
--- run has ticks
+-- what happens is of vCPUs with names; a change has one edit at least, and a burst a tick of work at least and no
+-- more than the longest run has ticks
 abbrev pub IsGoodAct : List (List ℕ) → Act → Type 0
 IsGoodAct names (Wake vcpu) = IsNamed names vcpu
 IsGoodAct names (Block vcpu) = IsNamed names vcpu

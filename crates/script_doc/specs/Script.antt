@@ -30,7 +30,8 @@ AreEvents names (statement ∷ statements) (event ∷ events) =
 AreEvents names [] (event ∷ events) = ⊥
 AreEvents names (statement ∷ statements) [] = ⊥
 
--- the statements are this script of a host whose vCPUs have these names, for a run of so many rounds
+-- the statements are this script of a host whose vCPUs have these names, for a run of so many rounds: 65535 events at
+-- most, of which 15 may be changes, in the order of their ticks, which may be equal
 pub record IsScript (names : List (List ℕ)) (rounds : ℕ) (statements : List Statement)
     (events : List Event) : Type 0 where
   pub each : AreEvents names statements events

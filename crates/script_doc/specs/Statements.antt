@@ -8,7 +8,7 @@ pub record Statement : Type 0 where
   pub number : ℕ
   pub words : List (List ℕ)
 
--- a line without words, and a comment: a line whose first byte is `#`
+-- a line without words, and a comment: a line whose first byte is `#`, so one after a space begins none
 abbrev pub is_skipped : List ℕ → Bool
 is_skipped line = (length (words_of line) == 0) || (slice_index line 0 == 35)
 

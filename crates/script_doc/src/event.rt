@@ -46,7 +46,7 @@ pub enum Act {
     Block(VcpuNo),
     /// The reservations change by these edits, of which a later one prevails.
     Change(Edits),
-    /// Work arrives for the vCPU: so many ticks to run, from 1 to `MAX_WORK`.
+    /// Work arrives for the vCPU: so many ticks to run, from 1 to `MAX_WORK`, those of the longest run.
     Burst { vcpu: VcpuNo, work: u32 },
 }
 

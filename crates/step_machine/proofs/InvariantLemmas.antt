@@ -97,7 +97,7 @@ seen_now course rounds posted decided c core k has most = record {
   stints = k.stints;
   sight = λ n h. (let e : posted ≡ n = same (Some posted) posted n refl h in rw (← e) (record {
     seen_posted = omega arith;
-    fresh = record { has = has; none_later = k.clock.events };
+    fresh = record { has = has; none_beyond = k.clock.events };
     stints = λ i s g. (k.stints.each i s g).seen_posted;
     counts = λ r d g le. most r d g;
   }));

@@ -33,7 +33,7 @@ pub record HasMember (items : Items) (number : ℕ) (vcpu : Vcpu) : Type 0 where
   pub is : IsVcpuOf number members vcpu
 
 -- the bytes are a document of a format that there is, and it states the host: its tick, its cores, its lag and its
--- vCPUs by number, of which no two have one name
+-- vCPUs by number, of which no two have one name; what it says of `sliver` and `quantum` is no matter here
 pub record StatesHost (bytes : List ℕ) (host : Host) : Type 0 where
   pub members : Members
   pub document : IsDocument bytes members
@@ -69,7 +69,7 @@ pub record HasRunAsPromised (rounds : ℕ) (source source' : SourceView) (view :
   pub script : IsScript (names_of host.vcpus) rounds (statements_of (script_section (sections_of input))) events
   pub ran : RanAsPromised rounds host events view
 
--- what `Ok` of `selftest` promises: the seed's host was run as promised
+-- what `Ok` of `selftest` promises: the seed's host of 8 cores and 64 vCPUs was run as promised, for 4 rounds
 pub record HasTestedAsPromised (seed : ℕ) (view : View) : Type 0 where
   pub host : Host
   pub is : IsGenerated seed 8 64 host

@@ -13,7 +13,7 @@ use Rattle.tableau_sim.specs.Outcomes.{CallOutcome}
 use Rattle.tableau_sim.specs.Outcomes.CallOutcome.{Refuses}
 use Rattle.tableau_sim.specs.Sections.{host_section}
 
--- the section of the script, which is the second
+-- the section of the script, which is the second, or the empty text if there is none
 abbrev pub script_section : List (List ℕ) → List ℕ
 script_section sections = slice_index_or sections 1 []
 

@@ -41,8 +41,8 @@ IsGoodNamedEdit (sets name share latency) = IsName name × (1 ≤ share) × (sha
     × (latency ≤ 1000000000000)
 IsGoodNamedEdit (leaves name) = IsName name
 
--- what happens is in its ranges: a change has one edit at least, and a burst no more work than the
--- longest run has ticks
+-- what happens is in its ranges: a change has one edit at least, and a burst a tick of work at least and no
+-- more than the longest run has ticks
 abbrev pub IsGoodNamedAct : NamedAct → Type 0
 IsGoodNamedAct (wakes name) = IsName name
 IsGoodNamedAct (blocks name) = IsName name

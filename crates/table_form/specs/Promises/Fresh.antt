@@ -11,4 +11,4 @@ HasUpTo course count x = (i : ℕ) → i < length course.ticks → tick_at cours
 -- is above x and the lag together
 pub record IsFresh (course : CourseView) (count x : ℕ) : Type 0 where
   pub has : HasUpTo course count x
-  pub none_later : (i : ℕ) → i < count → tick_at course i ≤ x + course.lag
+  pub none_beyond : (i : ℕ) → i < count → tick_at course i ≤ x + course.lag
