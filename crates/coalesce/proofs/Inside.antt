@@ -1,6 +1,6 @@
 -- A swap keeps each job's cells inside its window: one window of the first vCPU and one of the
 -- second contain all the ticks that change places.
-use Rattle.std.proofs.Common.{◌≡◌, ◌≢◌, ℕ, ◌+◌, ◌-◌, ◌*◌, ◌<◌, ◌≤◌, List, ◌∷◌, slice_get, Some, ◌⊎◌, ap, subst, sym, ◌∙◌, inl, inr, arith}
+use Rattle.std.proofs.Common.{◌≡◌, ◌≢◌, ℕ, ◌+◌, ◌-◌, ◌*◌, ◌<◌, ◌≤◌, List, ◌∷◌, ◌++◌, slice_get, Some, ◌⊎◌, ap, subst, sym, ◌∙◌, inl, inr, arith}
 use Rattle.std.proofs.Math.Nat.{mul-le-mul_left}
 use Rattle.std.proofs.lemmas.Bool.{cases_eq, cases_lt}
 use Rattle.std.proofs.lemmas.Option.{same_Some}
@@ -8,13 +8,13 @@ use Rattle.tab_core.specs.declared.piece.Piece.{Piece}
 use Rattle.table_form.specs.Tables.Rows.{Row}
 use Rattle.table_form.specs.Tables.Segments.{AreMaximal, SegmentView}
 use Rattle.table_form.specs.Planning.Windows.{DistinctVcpus, ServesWindows}
-use Rattle.coalesce.specs.Joining.{NoBegin, NoEnd, SwapsLeftmost, SwapsTo}
+use Rattle.coalesce.specs.Joining.{NoEdge, SwapsTo, swapped}
 use Rattle.coalesce.specs.Joining.SwapsTo.{Again, Done}
 use Rattle.coalesce.proofs.Counts.{AreMoved, IsOutside, same_before}
 use Rattle.coalesce.proofs.Counts.IsOutside.{Another, Before, Behind}
 use Rattle.coalesce.proofs.Moved.{CellAfter, cell_after, cells_moved, first_cell, last_cell}
 use Rattle.coalesce.proofs.Moved.CellAfter.{AsBefore, OfFirst, OfSecond}
-use Rattle.coalesce.proofs.Swapping.{parts_of, swap_keeps}
+use Rattle.coalesce.proofs.Swapping.{IsSwap, parts_of, swap_keeps, swap_of}
 use Rattle.table_form.proofs.SegmentLemmas.{cells_of}
 use Rattle.table_form.proofs.Supplies.{cells_before-end}
 
@@ -71,8 +71,8 @@ pub record MayMove (pieces : List Piece) (row row' : Row) (b l a first second : 
   pub some_second : 0 < l
   pub some_first : 0 < a
   pub differ : first ≢ second
-  pub no_begin : NoBegin pieces first b (b + l + a)
-  pub no_end : NoEnd pieces second b (b + l + a)
+  pub no_begin : NoEdge (λ p. p.from) pieces first b (b + l + a)
+  pub no_end : NoEdge (λ p. p.to) pieces second b (b + l + a)
 
 -- the window of the last tick contains all of them, as none of the first vCPU's begins among them
 first_holds : (pieces : List Piece) (row row' : Row) (b l a first second : ℕ)
@@ -195,7 +195,7 @@ move_keeps pieces row row' b l a first second may inside v x at = by_cell
 
 -- a swap is such a move
 may_move : (pieces : List Piece) (sliver : ℕ) (row next : List SegmentView) (end : ℕ)
-    (swap : SwapsLeftmost pieces sliver row next) → AreMaximal 0 row end
+    (swap : IsSwap pieces sliver row next) → AreMaximal 0 row end
     → MayMove pieces (cells_of 0 row) (cells_of 0 next) swap.x.end (swap.y.end - swap.x.end)
     (swap.z.end - swap.y.end) swap.can.first swap.can.second
 may_move pieces sliver row next end swap m =
@@ -209,8 +209,8 @@ may_move pieces sliver row next end swap m =
       some_second = omega (arith, three.2.0);
       some_first = omega (arith, three.2.2.0);
       differ = λ same. three.1 (swap.can.first_owns ∙ ap Some same ∙ sym swap.can.second_owns);
-      no_begin = subst (λ n. NoBegin pieces swap.can.first swap.x.end n) total swap.can.no_begin;
-      no_end = subst (λ n. NoEnd pieces swap.can.second swap.x.end n) total swap.can.no_end;
+      no_begin = subst (λ n. NoEdge (λ p. p.from) pieces swap.can.first swap.x.end n) total swap.can.no_begin;
+      no_end = subst (λ n. NoEdge (λ p. p.to) pieces swap.can.second swap.x.end n) total swap.can.no_end;
     }
 
 -- what the swaps keep
@@ -222,9 +222,10 @@ pub record AreServed (pieces : List Piece) (row : Row) : Type 0 where
 pub swaps_serve : (pieces : List Piece) (sliver bound : ℕ) (end row : List SegmentView) → DistinctVcpus pieces
     → SwapsTo pieces sliver end row → AreMaximal 0 row bound
     → AreServed pieces (cells_of 0 row) → AreServed pieces (cells_of 0 end)
-swaps_serve pieces sliver bound end _ distinct (Done row quiet same) m served = subst
-    (λ ts. AreServed pieces (cells_of 0 ts)) same served
-swaps_serve pieces sliver bound end _ distinct (Again row next swap swaps) m served =
+swaps_serve pieces sliver bound end _ distinct (Done quiet) m served = served
+swaps_serve pieces sliver bound end _ distinct (Again row before after x y z is can left swaps) m served =
+    let next = before ++ swapped x y z after in
+    let swap = swap_of pieces sliver row before after x y z is can in
     let may = may_move pieces sliver row next bound swap m in
     swaps_serve pieces sliver bound end next distinct swaps
     (swap_keeps pieces sliver 0 bound row next swap m) (record {

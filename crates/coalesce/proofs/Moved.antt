@@ -6,8 +6,9 @@ use Rattle.tab_core.specs.declared.piece.Piece.{Piece}
 use Rattle.tab_core.proofs.Lists.{get_front}
 use Rattle.table_form.specs.Tables.Rows.{Row}
 use Rattle.table_form.specs.Tables.Segments.{AreMaximal, SegmentView, put_front}
-use Rattle.coalesce.specs.Joining.{SwapsLeftmost, swapped}
+use Rattle.coalesce.specs.Joining.{swapped}
 use Rattle.coalesce.proofs.Counts.{AreMoved}
+use Rattle.coalesce.proofs.Swapping.{IsSwap}
 use Rattle.table_form.proofs.SegmentLemmas.{cells_of, cells_of-cons, cells_of-nil, cells_of_front, replicate_parts}
 
 -- the tick at which the segments end
@@ -55,7 +56,7 @@ length-cells_of start (x ∷ xs) ys end m =
 
 -- the cells of a swap, before and after it
 pub cells_moved : (pieces : List Piece) (sliver : ℕ) (row next : List SegmentView) (end : ℕ)
-    (swap : SwapsLeftmost pieces sliver row next) → AreMaximal 0 row end
+    (swap : IsSwap pieces sliver row next) → AreMaximal 0 row end
     → AreMoved (cells_of 0 row) (cells_of 0 next) swap.x.end (swap.y.end - swap.x.end)
     (swap.z.end - swap.y.end) swap.can.first swap.can.second
 cells_moved pieces sliver row next end swap m =

@@ -1,6 +1,7 @@
 -- Segments of which no three may be swapped: longer ones may not either, so one pass finds each
 -- leftmost swap.
 use Rattle.std.proofs.Common.{◌≡◌, ℕ, ◌≤◌, List, [], ◌∷◌, ◌++◌, refl, ap, subst, sym, ◌∙◌, inl, inr, arith, append_assoc}
+use Rattle.std.proofs.lemmas.List.{same_from_push}
 use Rattle.tab_core.specs.declared.piece.Piece.{Piece}
 use Rattle.table_form.specs.Tables.Segments.{SegmentView, put_front, put_before}
 use Rattle.coalesce.specs.Joining.{CanSwap, NoSwap}
@@ -31,55 +32,66 @@ shorter_swap pieces sliver x y y' z z' of_y of_z can = record {
   no_end = λ at k p listed own low high. can.no_end at k p listed own low (omega (arith, high, of_z.later));
 }
 
+-- no segments have no swap
+pub none_quiet : (pieces : List Piece) (sliver : ℕ) → NoSwap pieces sliver []
+none_quiet pieces sliver [] after x y z is can = cc
+none_quiet pieces sliver (w ∷ before) after x y z is can = cc
+
+-- the first segments of a row without a swap have none
+first_quiet : (pieces : List Piece) (sliver : ℕ) (xs ys : List SegmentView)
+    → NoSwap pieces sliver (xs ++ ys) → NoSwap pieces sliver xs
+first_quiet pieces sliver xs ys quiet before after x y z is can = quiet before (after ++ ys) x y z
+    (ap (λ ts. ts ++ ys) is ∙ append_assoc before (x ∷ y ∷ z ∷ after) ys) can
+
+-- one more that can't be swapped with the last two
+one_more_quiet : (pieces : List Piece) (sliver : ℕ) (xs : List SegmentView) (s : SegmentView)
+    → NoSwap pieces sliver xs
+    → ((before : List SegmentView) (x y : SegmentView) → xs ≡ before ++ x ∷ y ∷ []
+    → CanSwap pieces sliver x y s → ⊥)
+    → NoSwap pieces sliver (xs ++ s ∷ [])
+one_more_quiet pieces sliver xs s quiet cannot before [] x y z is can =
+    let same = same_from_push xs (before ++ x ∷ y ∷ []) s z
+    (is ∙ sym (append_assoc before (x ∷ y ∷ []) (z ∷ []))) in
+    cannot before x y same.0 (subst (CanSwap pieces sliver x y) (sym same.1) can)
+one_more_quiet pieces sliver xs s quiet cannot before (a ∷ after) x y z is can =
+    let last = last_of a after in
+    let same = same_from_push xs (before ++ x ∷ y ∷ z ∷ last.0) s last.1
+    (is ∙ ap (λ ts. before ++ x ∷ y ∷ z ∷ ts) last.2
+    ∙ sym (append_assoc before (x ∷ y ∷ z ∷ last.0) (last.1 ∷ []))) in
+    quiet before last.0 x y z same.0 can
+
 -- the last may end later
 pub last_grows : (pieces : List Piece) (sliver : ℕ) (xs : List SegmentView) (t t' : SegmentView)
     → t'.owner ≡ t.owner
     → t.end ≤ t'.end
     → NoSwap pieces sliver (xs ++ t ∷ []) → NoSwap pieces sliver (xs ++ t' ∷ [])
-last_grows pieces sliver [] t t' same le quiet = tt
-last_grows pieces sliver (x ∷ []) t t' same le quiet = tt
-last_grows pieces sliver (x ∷ y ∷ []) t t' same le quiet = (
-  λ can. quiet.0 (shorter_swap pieces sliver x y y t t' (itself y)
-      (record { same = same; later = le }) can),
-  tt,
-)
-last_grows pieces sliver (x ∷ y ∷ z ∷ xs) t t' same le quiet =
-    (quiet.0, last_grows pieces sliver (y ∷ z ∷ xs) t t' same le quiet.1)
+last_grows pieces sliver xs t t' same le quiet =
+    one_more_quiet pieces sliver xs t' (first_quiet pieces sliver xs (t ∷ []) quiet)
+    (λ before x y is can. quiet before [] x y t
+    (ap (λ ts. ts ++ t ∷ []) is ∙ append_assoc before (x ∷ y ∷ []) (t ∷ []))
+    (shorter_swap pieces sliver x y y t t' (itself y) (record { same = same; later = le }) can))
 
 -- the last two segments may grow as they do after a swap
 pub two_grow : (pieces : List Piece) (sliver : ℕ) (xs : List SegmentView) (u u' t t' : SegmentView)
     → u'.owner ≡ u.owner
     → u.end ≤ u'.end → t'.owner ≡ t.owner → t.end ≤ t'.end
     → NoSwap pieces sliver (xs ++ u ∷ t ∷ []) → NoSwap pieces sliver (xs ++ u' ∷ t' ∷ [])
-two_grow pieces sliver [] u u' t t' of_u le_u of_t le_t quiet = tt
-two_grow pieces sliver (x ∷ []) u u' t t' of_u le_u of_t le_t quiet = (
-  λ can. quiet.0 (shorter_swap pieces sliver x u u' t t' (record { same = of_u; later = le_u })
-      (record { same = of_t; later = le_t }) can),
-  tt,
-)
-two_grow pieces sliver (x ∷ y ∷ []) u u' t t' of_u le_u of_t le_t quiet =
-    let rest = two_grow pieces sliver (y ∷ []) u u' t t' of_u le_u of_t le_t quiet.1 in (
-      λ can. quiet.0 (shorter_swap pieces sliver x y y u u' (itself y)
-          (record { same = of_u; later = le_u }) can),
-      rest,
-    )
-two_grow pieces sliver (x ∷ y ∷ z ∷ xs) u u' t t' of_u le_u of_t le_t quiet =
-    (quiet.0, two_grow pieces sliver (y ∷ z ∷ xs) u u' t t' of_u le_u of_t le_t quiet.1)
-
--- one more that can't be swapped with the last two
-pub one_more_quiet : (pieces : List Piece) (sliver : ℕ) (xs : List SegmentView) (u t s : SegmentView) →
-    (CanSwap pieces sliver u t s → ⊥)
-    → NoSwap pieces sliver (xs ++ u ∷ t ∷ []) → NoSwap pieces sliver (xs ++ u ∷ t ∷ s ∷ [])
-one_more_quiet pieces sliver [] u t s cannot quiet = (cannot, tt)
-one_more_quiet pieces sliver (x ∷ []) u t s cannot quiet =
-    (quiet.0, one_more_quiet pieces sliver [] u t s cannot quiet.1)
-one_more_quiet pieces sliver (x ∷ y ∷ xs) u t s cannot quiet = several x y xs cannot quiet
+two_grow pieces sliver xs u u' t t' of_u le_u of_t le_t quiet =
+    subst (NoSwap pieces sliver) (append_assoc xs (u' ∷ []) (t' ∷ []))
+    (one_more_quiet pieces sliver (xs ++ u' ∷ []) t'
+    (last_grows pieces sliver xs u u' of_u le_u (first_quiet pieces sliver (xs ++ u ∷ []) (t ∷ [])
+    (subst (NoSwap pieces sliver) (sym (append_assoc xs (u ∷ []) (t ∷ []))) quiet))) last)
   where
-    several : (x y : SegmentView) (xs : List SegmentView) → (CanSwap pieces sliver u t s → ⊥)
-        → NoSwap pieces sliver
-        (x ∷ y ∷ (xs ++ u ∷ t ∷ [])) → NoSwap pieces sliver (x ∷ y ∷ (xs ++ u ∷ t ∷ s ∷ []))
-    several x y [] cannot quiet = (quiet.0, (quiet.1.0, (cannot, tt)))
-    several x y (z ∷ xs) cannot quiet = (quiet.0, several y z xs cannot quiet.1)
+    last : (before : List SegmentView) (x y : SegmentView) → xs ++ u' ∷ [] ≡ before ++ x ∷ y ∷ []
+        → CanSwap pieces sliver x y t' → ⊥
+    last before x y is can =
+        let same = same_from_push xs (before ++ x ∷ []) u' y
+        (is ∙ sym (append_assoc before (x ∷ []) (y ∷ []))) in
+        quiet before [] x u t
+        (ap (λ ts. ts ++ u ∷ t ∷ []) same.0 ∙ append_assoc before (x ∷ []) (u ∷ t ∷ []))
+        (shorter_swap pieces sliver x u u' t t' (record { same = of_u; later = le_u })
+        (record { same = of_t; later = le_t })
+        (subst (λ s. CanSwap pieces sliver x s t') (sym same.1) can))
 
 -- the next segment is appended, where it can't be swapped with the last two
 pub append_quiet : (pieces : List Piece) (sliver : ℕ) (out : List SegmentView) (s : SegmentView)
@@ -88,36 +100,20 @@ pub append_quiet : (pieces : List Piece) (sliver : ℕ) (out : List SegmentView)
     → CanSwap pieces sliver x y s → ⊥)
     → ((before : List SegmentView) (t : SegmentView) → out ≡ before ++ t ∷ [] → t.end ≤ s.end)
     → NoSwap pieces sliver (put_before out (s ∷ []))
-append_quiet pieces sliver [] s quiet cannot rises = tt
+append_quiet pieces sliver [] s quiet cannot rises = one_more_quiet pieces sliver [] s quiet cannot
 append_quiet pieces sliver (o ∷ out) s quiet cannot rises =
     let last = last_of o out in
     subst (λ ts. NoSwap pieces sliver (put_before ts (s ∷ []))) (sym last.2)
     (subst (NoSwap pieces sliver) (sym (before_last last.0 last.1 (s ∷ [])))
-    (behind last.0 last.1 (subst (NoSwap pieces sliver) last.2 quiet)
-    (λ before x y e. cannot before x y (last.2 ∙ e)) (rises last.0 last.1 last.2)))
+    (behind last.0 last.1 last.2))
   where
-    behind : (xs : List SegmentView) (t : SegmentView) → NoSwap pieces sliver (xs ++ t ∷ [])
-        → ((before : List SegmentView) (x y : SegmentView) → xs ++ t ∷ [] ≡ before ++ x ∷ y ∷ []
-        → CanSwap pieces sliver x y s
-        → ⊥)
-        → t.end ≤ s.end → NoSwap pieces sliver (xs ++ put_front t (s ∷ []))
-    behind xs t quiet cannot le = elim (front_cases t.owner (s ∷ [])) [
+    behind : (xs : List SegmentView) (t : SegmentView) → o ∷ out ≡ xs ++ t ∷ []
+        → NoSwap pieces sliver (xs ++ put_front t (s ∷ []))
+    behind xs t is = elim (front_cases t.owner (s ∷ [])) [
       | inr with ↦ (let same = same_first t.owner s [] with in
           subst (λ ts. NoSwap pieces sliver (xs ++ ts)) (sym (front_joins t s [] same))
-          (last_grows pieces sliver xs t s (sym same) le quiet))
+          (last_grows pieces sliver xs t s (sym same) (rises xs t is) (subst (NoSwap pieces sliver) is quiet)))
       | inl other ↦ subst (λ ts. NoSwap pieces sliver (xs ++ ts)) (sym (front_stays t (s ∷ []) other))
-          (pushed xs t quiet cannot)
+          (subst (NoSwap pieces sliver) (ap (λ ts. ts ++ s ∷ []) is ∙ append_assoc xs (t ∷ []) (s ∷ []))
+          (one_more_quiet pieces sliver (o ∷ out) s quiet cannot))
     ]
-      where
-        pushed : (xs : List SegmentView) (t : SegmentView) → NoSwap pieces sliver (xs ++ t ∷ [])
-            → ((before : List SegmentView) (x y : SegmentView) → xs ++ t ∷ [] ≡ before ++ x ∷ y ∷ []
-            → CanSwap pieces sliver x y s → ⊥)
-            → NoSwap pieces sliver (xs ++ t ∷ s ∷ [])
-        pushed [] t quiet cannot = tt
-        pushed (x ∷ xs) t quiet cannot =
-            let more = last_of x xs in
-            let two : (ts : List SegmentView) → (x ∷ xs) ++ ts ≡ more.0 ++ (more.1 ∷ ts) = λ ts. ap
-            (λ us. us ++ ts) more.2 ∙ append_assoc more.0 (more.1 ∷ []) ts in
-            subst (NoSwap pieces sliver) (sym (two (t ∷ s ∷ [])))
-            (one_more_quiet pieces sliver more.0 more.1 t s (cannot more.0 more.1 t (two (t ∷ [])))
-            (subst (NoSwap pieces sliver) (two (t ∷ [])) quiet))

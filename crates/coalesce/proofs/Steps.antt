@@ -8,11 +8,11 @@ use Rattle.table_form.specs.Tables.Segments.{put_before, AreMaximal, SegmentView
 use Rattle.table_form.specs.declared.segment.Segment.{Segment}
 use Rattle.table_form.proofs.AppendingLemmas.{before_last_two, before_nothing, before_one_more, maximal_append}
 use Rattle.table_form.proofs.SegmentLemmas.{front_stays, maximal_end}
-use Rattle.coalesce.specs.Joining.{CanSwap, NoSwap, SwapsLeftmost, SwapsTo, swapped}
+use Rattle.coalesce.specs.Joining.{CanSwap, SwapsTo, swapped}
 use Rattle.coalesce.specs.Joining.SwapsTo.{Again, Done}
 use Rattle.coalesce.specs.Inside.Passing.{CanSwapLast, EndBelow, IsPassed, IsPieceTableOf, StandInRow}
 use Rattle.coalesce.proofs.Ends.{ends_before}
-use Rattle.coalesce.proofs.Quiet.{append_quiet, two_grow}
+use Rattle.coalesce.proofs.Quiet.{append_quiet, none_quiet, two_grow}
 use Rattle.coalesce.proofs.Swapping.{parts_of}
 
 -- the last two after a swap with the next
@@ -55,23 +55,11 @@ passed_after_swap pieces sliver row xs u t s rest stand can passed =
     let new : put_before
     (xs ++ first_after u t s ∷ second_after t s ∷ []) rest ≡ xs ++ swapped u t s rest = before_last_two xs
     (first_after u t s) (second_after t s) rest in
-    let swap : SwapsLeftmost pieces sliver (put_before (xs ++ u ∷ t ∷ []) (s ∷ rest))
-    (put_before (xs ++ first_after u t s ∷ second_after t s ∷ []) rest)
-    = record {
-      before = xs;
-      x = u;
-      y = t;
-      z = s;
-      after = rest;
-      row_is = old;
-      can = can;
-      leftmost = passed.quiet;
-      next_is = new;
-    } in
     record {
       quiet = two_grow pieces sliver xs u (first_after u t s) t (second_after t s) refl (omega arith) refl
           (omega (arith, late)) passed.quiet;
-      leads = λ end swaps. passed.leads end (Again _ _ swap swaps);
+      leads = λ end swaps. passed.leads end
+          (Again _ xs rest u t s old can passed.quiet (subst (SwapsTo pieces sliver end) new swaps));
     }
 
 -- a segment that is appended keeps what holds of the two parts
@@ -115,7 +103,7 @@ pub none_passed : (segments : List Segment) (table : List (Option Piece)) (slive
     → AreMaximal 0 (map segment_view segments) ROUND → HasPassed segments table sliver 0 []
 none_passed segments table sliver maximal = record {
   stands = record { reached = 0; before = refl; after = maximal };
-  passed = λ pieces is. record { quiet = tt; leads = λ end swaps. swaps };
+  passed = λ pieces is. record { quiet = none_quiet pieces sliver; leads = λ end swaps. swaps };
 }
 
 -- the next segment is before the rest, so what is known of both is what `take_next` asks
@@ -182,8 +170,5 @@ all_passed segments table sliver at out past passed =
       swaps = λ pieces of. (
           let end = subst (IsPassed pieces sliver (map segment_view segments) out) none
           (passed.passed pieces of) in
-          end.leads out
-          (Done (put_before out []) (subst (NoSwap pieces sliver)
-          (sym (before_nothing out)) end.quiet)
-          (before_nothing out)));
+          end.leads out (subst (SwapsTo pieces sliver out) (sym (before_nothing out)) (Done end.quiet)));
     }

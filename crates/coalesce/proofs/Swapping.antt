@@ -2,9 +2,27 @@
 use Rattle.std.proofs.Common.{◌≡◌, ℕ, ◌+◌, ◌-◌, ◌<◌, ◌≤◌, List, [], ◌∷◌, ◌++◌, length, refl, ap, subst, sym, ◌∙◌, inl, inr, arith, length-append}
 use Rattle.tab_core.specs.declared.piece.Piece.{Piece}
 use Rattle.table_form.specs.Tables.Segments.{AreMaximal, BeginsOther, SegmentView, put_front}
-use Rattle.coalesce.specs.Joining.{CanSwap, SwapsLeftmost, SwapsTo, swapped}
+use Rattle.coalesce.specs.Joining.{CanSwap, SwapsTo, swapped}
 use Rattle.coalesce.specs.Joining.SwapsTo.{Again, Done}
 use Rattle.table_form.proofs.SegmentLemmas.{front_begins, front_cases, front_joins, front_stays, maximal_front, same_first}
+
+-- one swap of a row
+pub record IsSwap (pieces : List Piece) (sliver : ℕ) (row next : List SegmentView) : Type 0 where
+  pub before : List SegmentView
+  pub x : SegmentView
+  pub y : SegmentView
+  pub z : SegmentView
+  pub after : List SegmentView
+  pub row_is : row ≡ before ++ x ∷ y ∷ z ∷ after
+  pub can : CanSwap pieces sliver x y z
+  pub next_is : next ≡ before ++ swapped x y z after
+
+-- the conditions of a swap make it one
+pub swap_of : (pieces : List Piece) (sliver : ℕ) (row before after : List SegmentView) (x y z : SegmentView)
+    → row ≡ before ++ x ∷ y ∷ z ∷ after → CanSwap pieces sliver x y z
+    → IsSwap pieces sliver row (before ++ swapped x y z after)
+swap_of pieces sliver row before after x y z is can =
+    record { before = before; x = x; y = y; z = z; after = after; row_is = is; can = can; next_is = refl }
 
 -- some of the segments and the rest of them
 pub record Parts (start : ℕ) (xs : List SegmentView) (y : SegmentView) (ys : List SegmentView)
@@ -45,7 +63,7 @@ swap_differs pieces sliver start x y z after end m can =
 
 -- one swap keeps the row maximal
 pub swap_keeps : (pieces : List Piece) (sliver : ℕ) (start end : ℕ) (row next : List SegmentView)
-    → SwapsLeftmost pieces sliver row next → AreMaximal start row end → AreMaximal start next end
+    → IsSwap pieces sliver row next → AreMaximal start row end → AreMaximal start next end
 swap_keeps pieces sliver start end row next swap m =
     let parts = parts_of start swap.before swap.x (swap.y ∷ swap.z ∷ swap.after) end
     (subst (λ ts. AreMaximal start ts end) swap.row_is m) in
@@ -56,11 +74,11 @@ swap_keeps pieces sliver start end row next swap m =
 -- all swaps keep the row maximal
 pub swaps_keep : (pieces : List Piece) (sliver : ℕ) (start bound : ℕ) (end row : List SegmentView)
     → SwapsTo pieces sliver end row → AreMaximal start row bound → AreMaximal start end bound
-swaps_keep pieces sliver start bound end _ (Done row quiet same) m =
-    subst (λ ts. AreMaximal start ts bound) same m
-swaps_keep pieces sliver start bound end _
-    (Again row next swap swaps) m = swaps_keep pieces sliver start bound end next swaps
-    (swap_keeps pieces sliver start bound row next swap m)
+swaps_keep pieces sliver start bound end _ (Done quiet) m = m
+swaps_keep pieces sliver start bound end _ (Again row before after x y z is can left swaps) m =
+    swaps_keep pieces sliver start bound end (before ++ swapped x y z after) swaps
+    (swap_keeps pieces sliver start bound row (before ++ swapped x y z after)
+    (swap_of pieces sliver row before after x y z is can) m)
 
 -- a segment before others adds at most one
 pub front_length : (s : SegmentView) (ts : List SegmentView) → length (put_front s ts) ≤ length ts + 1
@@ -72,7 +90,7 @@ front_length s (t ∷ ts) = elim (front_cases s.owner (t ∷ ts)) [
 
 -- one swap takes a segment away, since the third joins the first
 pub swap_shortens : (pieces : List Piece) (sliver : ℕ) (row next : List SegmentView)
-    → SwapsLeftmost pieces sliver row next → length next < length row
+    → IsSwap pieces sliver row next → length next < length row
 swap_shortens pieces sliver row next swap =
     let t : SegmentView = record { owner = swap.y.owner; end = swap.z.end } in
     omega (
@@ -88,6 +106,8 @@ swap_shortens pieces sliver row next swap =
 pub swaps_shorten : (pieces : List Piece) (sliver : ℕ) (end row : List SegmentView)
     → SwapsTo pieces sliver end row
     → length end ≤ length row
-swaps_shorten pieces sliver end _ (Done row quiet same) = omega (arith, ap length same)
-swaps_shorten pieces sliver end _ (Again row next swap swaps) =
+swaps_shorten pieces sliver end _ (Done quiet) = omega arith
+swaps_shorten pieces sliver end _ (Again row before after x y z is can left swaps) =
+    let next = before ++ swapped x y z after in
+    let swap = swap_of pieces sliver row before after x y z is can in
     omega (arith, swap_shortens pieces sliver row next swap, swaps_shorten pieces sliver end next swaps)

@@ -7,7 +7,7 @@ use Rattle.std.proofs.lemmas.Option.{slice_get-get_or}
 use Rattle.tab_core.specs.declared.TheConstants.{MAX_VCPUS}
 use Rattle.tab_core.specs.declared.piece.Piece.{Piece}
 use Rattle.table_form.specs.Tables.Segments.{SegmentView}
-use Rattle.coalesce.specs.Joining.{CanSwap, NoBegin, NoEnd}
+use Rattle.coalesce.specs.Joining.{CanSwap, NoEdge}
 use Rattle.coalesce.specs.Inside.Passing.{IsPieceTableOf}
 
 -- what is at the vCPU's number
@@ -41,8 +41,8 @@ one_listed pieces table v at p q is some listed own = inside
 
 -- the test for begins fails, so the three can't be swapped
 pub swap_needs_begin : (pieces : List Piece) (sliver : ℕ) (x y z : SegmentView) (v : ℕ) → x.owner ≡ Some v
-    → CanSwap pieces sliver x y z → NoBegin pieces v x.end z.end
-swap_needs_begin pieces sliver x y z v is can = subst (λ w. NoBegin pieces w x.end z.end)
+    → CanSwap pieces sliver x y z → NoEdge (λ p. p.from) pieces v x.end z.end
+swap_needs_begin pieces sliver x y z v is can = subst (λ w. NoEdge (λ p. p.from) pieces w x.end z.end)
     (inside (sym can.first_owns ∙ is)) can.no_begin
   where
     inside : Some can.first ≡ Some v → can.first ≡ v
@@ -50,36 +50,31 @@ swap_needs_begin pieces sliver x y z v is can = subst (λ w. NoBegin pieces w x.
 
 -- the test for ends fails, so they can't either
 pub swap_needs_end : (pieces : List Piece) (sliver : ℕ) (x y z : SegmentView) (v : ℕ) → y.owner ≡ Some v
-    → CanSwap pieces sliver x y z → NoEnd pieces v x.end z.end
-swap_needs_end pieces sliver x y z v is can = subst (λ w. NoEnd pieces w x.end z.end)
+    → CanSwap pieces sliver x y z → NoEdge (λ p. p.to) pieces v x.end z.end
+swap_needs_end pieces sliver x y z v is can = subst (λ w. NoEdge (λ p. p.to) pieces w x.end z.end)
     (inside (sym can.second_owns ∙ is)) can.no_end
   where
     inside : Some can.second ≡ Some v → can.second ≡ v
     inside e = cc
 
--- no such tick of the vCPU's piece lies strictly between two ticks
-abbrev pub NoneAt : (Piece → ℕ) → List Piece → ℕ → ℕ → ℕ → Type 0
-NoneAt offset pieces vcpu low high = (at k : ℕ) (p : Piece) → slice_get pieces at ≡ Some p → p.vcpu ≡ vcpu →
-    low < k * p.period + offset p → k * p.period + offset p < high → ⊥
-
--- as the first after the lower one tells
-pub none_by_next : (offset : Piece → ℕ) (pieces : List Piece) (table : List (Option Piece))
+-- no edge lies strictly between two ticks, as the first one after the lower tick tells
+pub none_by_next : (edge : Piece → ℕ) (pieces : List Piece) (table : List (Option Piece))
     (v low high next : ℕ)
     (q : Piece) → IsPieceTableOf pieces table → slice_get table v ≡ Some (Some q)
-    → low < next → (k : ℕ) × (next ≡ k * q.period + offset q) →
-    ((k : ℕ) → low < k * q.period + offset q → next ≤ k * q.period + offset q)
-    → (IsTrue (leb high next) → NoneAt offset pieces v low high) ×
-    (NoneAt offset pieces v low high → IsTrue (leb high next))
-none_by_next offset pieces table v low high next q is some later one least = (if_beyond, if_none)
+    → low < next → (k : ℕ) × (next ≡ k * q.period + edge q) →
+    ((k : ℕ) → low < k * q.period + edge q → next ≤ k * q.period + edge q)
+    → (IsTrue (leb high next) → NoEdge edge pieces v low high) ×
+    (NoEdge edge pieces v low high → IsTrue (leb high next))
+none_by_next edge pieces table v low high next q is some later one least = (if_beyond, if_none)
   where
-    if_beyond : IsTrue (leb high next) → NoneAt offset pieces v low high
+    if_beyond : IsTrue (leb high next) → NoEdge edge pieces v low high
     if_beyond beyond at k p listed own above below =
         let same = one_listed pieces table v at p q is some listed own in
-        let above' = subst (λ (r : Piece). low < k * r.period + offset r) same above in
-        let below' = subst (λ (r : Piece). k * r.period + offset r < high) same below in
+        let above' = subst (λ (r : Piece). low < k * r.period + edge r) same above in
+        let below' = subst (λ (r : Piece). k * r.period + edge r < high) same below in
         omega (arith, leb-true high next beyond, least k above', below')
 
-    if_none : NoneAt offset pieces v low high → IsTrue (leb high next)
+    if_none : NoEdge edge pieces v low high → IsTrue (leb high next)
     if_none none = elim (cases_lt next high) [
       | inr le ↦ le-leb high next le
       | inl lt ↦

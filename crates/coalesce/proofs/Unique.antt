@@ -1,12 +1,12 @@
 -- A row has one joined row: there is one leftmost swap, and so one end of the swaps.
-use Rattle.std.proofs.Common.{◌≡◌, ℕ, Bool, List, [], ◌∷◌, ◌++◌, ◌<◌, length, get_or, ap, subst, sym, ◌∙◌, arith}
+use Rattle.std.proofs.Common.{◌≡◌, ℕ, Bool, List, [], ◌∷◌, ◌++◌, ◌<◌, length, get_or, refl, ap, subst, sym, ◌∙◌, arith}
 use Rattle.std.proofs.lemmas.List.{ext_get_or}
 use Rattle.std.proofs.lemmas.Option.{slice_get-get_or}
 use Rattle.tab_core.specs.declared.piece.Piece.{Piece}
 use Rattle.table_form.specs.Planning.Drafts.{pieces_at}
 use Rattle.table_form.specs.Tables.Rows.{Row}
 use Rattle.table_form.specs.Tables.Segments.{SegmentView, segments_from}
-use Rattle.coalesce.specs.Joining.{AreJoined, CanSwap, IsJoined, NoSwap, may_have_more, SwapsLeftmost, SwapsTo, filled, swapped}
+use Rattle.coalesce.specs.Joining.{AreJoined, CanSwap, IsJoined, NoSwap, may_have_more, SwapsTo, filled, swapped}
 use Rattle.coalesce.specs.Joining.SwapsTo.{Again, Done}
 use Rattle.table_form.proofs.SegmentLemmas.{same_row}
 
@@ -14,24 +14,8 @@ use Rattle.table_form.proofs.SegmentLemmas.{same_row}
 no_swap_behind : (pieces : List Piece) (sliver : ℕ) (w : SegmentView) (ws : List SegmentView)
     → NoSwap pieces sliver (w ∷ ws)
     → NoSwap pieces sliver ws
-no_swap_behind pieces sliver w [] quiet = tt
-no_swap_behind pieces sliver w (x ∷ []) quiet = tt
-no_swap_behind pieces sliver w (x ∷ y ∷ ws) quiet = quiet.1
-
--- a quiet row has no swap at any place
-no_swap_at : (pieces : List Piece) (sliver : ℕ) (before : List SegmentView) (x y z : SegmentView)
-    (after : List SegmentView)
-    → NoSwap pieces sliver (before ++ x ∷ y ∷ z ∷ after) → CanSwap pieces sliver x y z → ⊥
-no_swap_at pieces sliver [] x y z after quiet can = quiet.0 can
-no_swap_at pieces sliver (w ∷ before) x y z after quiet can = no_swap_at pieces sliver before x y z after
-    (no_swap_behind pieces sliver w (before ++ x ∷ y ∷ z ∷ after) quiet) can
-
--- equal segments may be swapped alike
-can_moved : (pieces : List Piece) (sliver : ℕ) (x y z u v w : SegmentView) → x ≡ u → y ≡ v → z ≡ w
-    → CanSwap pieces sliver x y z → CanSwap pieces sliver u v w
-can_moved pieces sliver x y z u v w a b c can =
-    subst (λ s. CanSwap pieces sliver s v w) a
-    (subst (λ s. CanSwap pieces sliver x s w) b (subst (CanSwap pieces sliver x y) c can))
+no_swap_behind pieces sliver w ws quiet before after x y z is can =
+    quiet (w ∷ before) after x y z (ap (λ ts. w ∷ ts) is) can
 
 -- no swap is further left than the leftmost
 none_earlier : (pieces : List Piece) (sliver : ℕ) (x y z : SegmentView) (after : List SegmentView)
@@ -40,12 +24,12 @@ none_earlier : (pieces : List Piece) (sliver : ℕ) (x y z : SegmentView) (after
     → x ∷ y ∷ z ∷ after ≡ w ∷ (ws ++ x' ∷ y' ∷ z' ∷ after') → CanSwap pieces sliver x y z
     → NoSwap pieces sliver
     (w ∷ (ws ++ x' ∷ y' ∷ [])) → ⊥
-none_earlier pieces sliver x y z after w [] x' y' z' after' same can quiet = quiet.0
-    (can_moved pieces sliver x y z w x' y' (cc) (cc) (cc) can)
-none_earlier pieces sliver x y z after w (v ∷ []) x' y' z' after' same can quiet = quiet.0
-    (can_moved pieces sliver x y z w v x' (cc) (cc) (cc) can)
-none_earlier pieces sliver x y z after w (v ∷ u ∷ ws) x' y' z' after' same can quiet = quiet.0
-    (can_moved pieces sliver x y z w v u (cc) (cc) (cc) can)
+none_earlier pieces sliver x y z after w [] x' y' z' after' same can quiet =
+    quiet [] [] x y z (cc) can
+none_earlier pieces sliver x y z after w (v ∷ []) x' y' z' after' same can quiet =
+    quiet [] (y' ∷ []) x y z (cc) can
+none_earlier pieces sliver x y z after w (v ∷ u ∷ ws) x' y' z' after' same can quiet =
+    quiet [] (ws ++ x' ∷ y' ∷ []) x y z (cc) can
 
 -- two leftmost swaps of a row are at one place
 same_swap : (pieces : List Piece) (sliver : ℕ) (before : List SegmentView) (x y z : SegmentView)
@@ -74,32 +58,20 @@ same_swap pieces sliver (w ∷ ws) x y z after (w' ∷ ws') x' y' z' after' same
     (no_swap_behind pieces sliver w' (ws' ++ x' ∷ y' ∷ []) quiet') in
     ap (λ s. s ∷ (ws ++ swapped x y z after)) here ∙ ap (λ ss. w' ∷ ss) rest
 
--- two leftmost swaps of a row lead to one row
-leftmost_unique : (pieces : List Piece) (sliver : ℕ) (row a b : List SegmentView)
-    → SwapsLeftmost pieces sliver row a
-    → SwapsLeftmost pieces sliver row b → a ≡ b
-leftmost_unique pieces sliver row a b s t =
-    s.next_is ∙ same_swap pieces sliver s.before s.x s.y s.z s.after t.before t.x t.y t.z t.after
-    (sym s.row_is ∙ t.row_is) s.can t.can s.leftmost t.leftmost ∙ sym t.next_is
-
--- a row without a swap is an end
-quiet_or_swap : (pieces : List Piece) (sliver : ℕ) (row next : List SegmentView) → NoSwap pieces sliver row
-    → SwapsLeftmost pieces sliver row next → ⊥
-quiet_or_swap pieces sliver row next quiet swap =
-    no_swap_at pieces sliver swap.before swap.x swap.y swap.z swap.after
-    (subst (NoSwap pieces sliver) swap.row_is quiet) swap.can
-
 -- the swaps of a row end in one row
 swaps_unique : (pieces : List Piece) (sliver : ℕ) (a b row : List SegmentView) → SwapsTo pieces sliver a row
     → SwapsTo pieces sliver b row → a ≡ b
-swaps_unique pieces sliver a b row (Done r quiet same) (Done q quiet' same') = sym same ∙ same'
-swaps_unique pieces sliver a b row (Done r quiet same) (Again q next swap swaps) = absurd
-    (quiet_or_swap pieces sliver row next quiet swap)
-swaps_unique pieces sliver a b row (Again r next swap swaps) (Done q quiet same) = absurd
-    (quiet_or_swap pieces sliver row next quiet swap)
-swaps_unique pieces sliver a b row (Again r next swap swaps) (Again q next' swap' swaps') =
-    let same = leftmost_unique pieces sliver row next' next swap' swap in
-    swaps_unique pieces sliver a b next swaps (subst (SwapsTo pieces sliver b) same swaps')
+swaps_unique pieces sliver a b row (Done quiet) (Done quiet') = refl
+swaps_unique pieces sliver a b row (Done quiet) (Again q before after x y z is can left swaps) =
+    absurd (quiet before after x y z is can)
+swaps_unique pieces sliver a b row (Again r before after x y z is can left swaps) (Done quiet) =
+    absurd (quiet before after x y z is can)
+swaps_unique pieces sliver a b row (Again r before after x y z is can left swaps)
+    (Again q before' after' x' y' z' is' can' left' swaps') =
+    let same = same_swap pieces sliver before' x' y' z' after' before x y z after (sym is' ∙ is)
+    can' can left' left in
+    swaps_unique pieces sliver a b (before ++ swapped x y z after) swaps
+    (subst (SwapsTo pieces sliver b) same swaps')
 
 -- the joined row is one
 pub joined_unique : (pieces : List Piece) (may_grow : ℕ → Bool) (sliver : ℕ) (row a b : Row)

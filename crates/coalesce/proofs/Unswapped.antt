@@ -1,11 +1,11 @@
 -- Segments of which no three may be swapped, whatever the pieces are.
-use Rattle.std.proofs.Common.{◌≡◌, ℕ, zero, suc, ◌+◌, ◌-◌, ◌<◌, ◌≤◌, List, [], ◌∷◌, length, map, slice_get, get_or, Some, refl, ap, sym, subst, ◌∙◌, inl, inr, arith}
+use Rattle.std.proofs.Common.{◌≡◌, ℕ, suc, ◌+◌, ◌-◌, ◌<◌, ◌≤◌, List, [], ◌∷◌, length, map, slice_get, get_or, Some, refl, ap, sym, subst, ◌∙◌, inl, inr, arith}
 use Rattle.std.proofs.lemmas.Bool.{cases_lt}
 use Rattle.std.proofs.lemmas.Option.{same_Some, slice_get-get_or, slice_get_within}
 use Rattle.tab_core.specs.declared.TheConstants.{ROUND}
 use Rattle.tab_core.specs.declared.piece.Piece.{Piece}
 use Rattle.table_form.specs.Tables.Rows.{RisesTo, Row, cells_from}
-use Rattle.table_form.specs.Tables.Segments.{AreMaximal, segment_view, segments_from}
+use Rattle.table_form.specs.Tables.Segments.{AreMaximal, SegmentView, segment_view, segments_from}
 use Rattle.table_form.specs.declared.segment.Segment.{Segment}
 use Rattle.table_form.proofs.RowLemmas.{length-cells_from}
 use Rattle.table_form.proofs.SegmentLemmas.{maximal_of_row}
@@ -25,14 +25,25 @@ NoneAt sliver segments k = (x y z : Segment) → slice_get segments k ≡ Some x
 abbrev pub NoneBefore : ℕ → List Segment → ℕ → Type 0
 NoneBefore sliver segments number = (k : ℕ) → suc (suc k) < number → NoneAt sliver segments k
 
+-- equal segments may be swapped alike
+can_moved : (pieces : List Piece) (sliver : ℕ) (x y z u v w : SegmentView) → x ≡ u → y ≡ v → z ≡ w
+    → CanSwap pieces sliver x y z → CanSwap pieces sliver u v w
+can_moved pieces sliver x y z u v w a b c can =
+    subst (λ s. CanSwap pieces sliver s v w) a
+    (subst (λ s. CanSwap pieces sliver x s w) b (subst (CanSwap pieces sliver x y) c can))
+
 -- where none of the whole row may be swapped, the row is quiet
 pub none_swap : (pieces : List Piece) (sliver : ℕ) (segments : List Segment)
     → ((k : ℕ) → NoneAt sliver segments k) → NoSwap pieces sliver (map segment_view segments)
-none_swap pieces sliver [] none = tt
-none_swap pieces sliver (x ∷ []) none = tt
-none_swap pieces sliver (x ∷ y ∷ []) none = tt
-none_swap pieces sliver (x ∷ y ∷ z ∷ rest) none =
-    (none 0 x y z refl refl refl pieces, none_swap pieces sliver (y ∷ z ∷ rest) (λ k. none (suc k)))
+none_swap pieces sliver [] none [] after x y z is can = cc
+none_swap pieces sliver (a ∷ []) none [] after x y z is can = cc
+none_swap pieces sliver (a ∷ b ∷ []) none [] after x y z is can = cc
+none_swap pieces sliver (a ∷ b ∷ c ∷ rest) none [] after x y z is can =
+    none 0 a b c refl refl refl pieces (can_moved pieces sliver x y z (segment_view a) (segment_view b)
+    (segment_view c) (cc) (cc) (cc) can)
+none_swap pieces sliver [] none (w ∷ before) after x y z is can = cc
+none_swap pieces sliver (a ∷ rest) none (w ∷ before) after x y z is can =
+    none_swap pieces sliver rest (λ k. none (suc k)) before after x y z (cc) can
 
 -- what is at a place is one segment
 same_at : (segments : List Segment) (i k : ℕ) (x u : Segment) → i ≡ k → k < length segments

@@ -9,15 +9,10 @@ use Rattle.table_form.specs.Planning.Drafts.{pieces_at}
 use Rattle.table_form.specs.Tables.Rows.{Row}
 use Rattle.table_form.specs.Tables.Segments.{SegmentView, put_front, segments_from}
 
--- no window of the vCPU's piece begins strictly between the two ticks
-abbrev pub NoBegin : List Piece → ℕ → ℕ → ℕ → Type 0
-NoBegin pieces vcpu low high = (at k : ℕ) (p : Piece) → slice_get pieces at ≡ Some p → p.vcpu ≡ vcpu →
-    low < k * p.period + p.from → k * p.period + p.from < high → ⊥
-
--- no window of the vCPU's piece ends strictly between the two ticks
-abbrev pub NoEnd : List Piece → ℕ → ℕ → ℕ → Type 0
-NoEnd pieces vcpu low high = (at k : ℕ) (p : Piece) → slice_get pieces at ≡ Some p → p.vcpu ≡ vcpu →
-    low < k * p.period + p.to → k * p.period + p.to < high → ⊥
+-- no window of the vCPU's piece has this edge, its begin or its end, strictly between the two ticks
+abbrev pub NoEdge : (Piece → ℕ) → List Piece → ℕ → ℕ → ℕ → Type 0
+NoEdge edge pieces vcpu low high = (at k : ℕ) (p : Piece) → slice_get pieces at ≡ Some p → p.vcpu ≡ vcpu →
+    low < k * p.period + edge p → k * p.period + edge p < high → ⊥
 
 -- the third of three neighbours may come before the second: the first and the third are of one
 -- vCPU, the second is a short one of another vCPU, and strictly between the second's begin and the
@@ -29,16 +24,13 @@ pub record CanSwap (pieces : List Piece) (sliver : ℕ) (x y z : SegmentView) : 
   pub second_owns : y.owner ≡ Some second
   pub first_again : z.owner ≡ Some first
   pub short : y.end - x.end < sliver
-  pub no_begin : NoBegin pieces first x.end z.end
-  pub no_end : NoEnd pieces second x.end z.end
+  pub no_begin : NoEdge (λ p. p.from) pieces first x.end z.end
+  pub no_end : NoEdge (λ p. p.to) pieces second x.end z.end
 
 -- no three neighbours may be swapped
 abbrev pub NoSwap : List Piece → ℕ → List SegmentView → Type 0
-NoSwap pieces sliver [] = Unit {0}
-NoSwap pieces sliver (x ∷ []) = Unit {0}
-NoSwap pieces sliver (x ∷ y ∷ []) = Unit {0}
-NoSwap pieces sliver (x ∷ y ∷ z ∷ rest) = (CanSwap pieces sliver x y z → ⊥)
-    × NoSwap pieces sliver (y ∷ z ∷ rest)
+NoSwap pieces sliver row = (before after : List SegmentView) (x y z : SegmentView)
+    → row ≡ before ++ x ∷ y ∷ z ∷ after → CanSwap pieces sliver x y z → ⊥
 
 -- the first takes the third's ticks after its own, and the second comes after them, before what
 -- followed
@@ -47,30 +39,18 @@ swapped x y z after =
     record { owner = x.owner; end = x.end + (z.end - y.end) }
     ∷ put_front (record { owner = y.owner; end = z.end }) after
 
--- one swap, at the leftmost place: no three neighbours further left may be swapped
-pub record SwapsLeftmost (pieces : List Piece) (sliver : ℕ) (row next : List SegmentView) : Type 0 where
-  pub before : List SegmentView
-  pub x : SegmentView
-  pub y : SegmentView
-  pub z : SegmentView
-  pub after : List SegmentView
-  pub row_is : row ≡ before ++ x ∷ y ∷ z ∷ after
-  pub can : CanSwap pieces sliver x y z
-  pub leftmost : NoSwap pieces sliver (before ++ x ∷ y ∷ [])
-  pub next_is : next ≡ before ++ swapped x y z after
-
--- swaps at the leftmost place, one after the other, until none is left
+-- swaps, one after the other, until none is left, each at the leftmost place: no three neighbours
+-- further left may be swapped
 pub data SwapsTo (pieces : List Piece) (sliver : ℕ) (end : List SegmentView) : List SegmentView → Type 0 where
-  Done : (row : List SegmentView) → NoSwap pieces sliver row → row ≡ end → SwapsTo pieces sliver end row
-  Again : (row next : List SegmentView) → SwapsLeftmost pieces sliver row next
-      → SwapsTo pieces sliver end next →
-      SwapsTo pieces sliver end row
+  Done : NoSwap pieces sliver end → SwapsTo pieces sliver end end
+  Again : (row before after : List SegmentView) (x y z : SegmentView) → row ≡ before ++ x ∷ y ∷ z ∷ after
+      → CanSwap pieces sliver x y z → NoSwap pieces sliver (before ++ x ∷ y ∷ [])
+      → SwapsTo pieces sliver end (before ++ swapped x y z after) → SwapsTo pieces sliver end row
 
 -- the second is idle and short, and the one before it is of a vCPU that may have more
 abbrev pub is_given : (ℕ → Bool) → ℕ → Option ℕ → Option ℕ → ℕ → Bool
 is_given may_grow sliver (Some v) None ticks = nat_lt ticks sliver && may_grow v
-is_given may_grow sliver None o ticks = false
-is_given may_grow sliver (Some v) (Some w) ticks = false
+is_given may_grow sliver before own ticks = false
 
 -- a segment, with the owner of the one before it where it is given to that
 abbrev pub given_sliver : (ℕ → Bool) → ℕ → SegmentView → SegmentView → SegmentView

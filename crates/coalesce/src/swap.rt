@@ -2,7 +2,7 @@ ghost use Rattle.std.specs.Prelude.{◌≡◌, ◌<◌, ◌↔◌, IsTrue, List,
 ghost use Rattle.tab_core.specs.declared.TheConstants.{MAX_VCPUS, ROUND};
 ghost use Rattle.tab_core.specs.declared.piece.Piece.{Piece};
 ghost use Rattle.table_form.specs.Tables.Segments.{segment_view};
-ghost use Rattle.coalesce.specs.Joining.{CanSwap, NoBegin, NoEnd};
+ghost use Rattle.coalesce.specs.Joining.{CanSwap, NoEdge};
 ghost use Rattle.coalesce.specs.Inside.Passing.{IsPieceTableOf};
 
 use tab_core::{Piece, VcpuNo};
@@ -13,7 +13,7 @@ fn has_no_begin(table: &[Option<Piece>], vcpu: VcpuNo, low: u32, high: u32) -> b
     requires sized { length table.now ≡ MAX_VCPUS }
     requires in_round { low < ROUND }
     ensures { (pieces : List Piece) → IsPieceTableOf pieces table.now
-        → (IsTrue result ↔ NoBegin pieces vcpu low high) }
+        → (IsTrue result ↔ NoEdge (λ p. p.from) pieces vcpu low high) }
 {
     match table[vcpu.index()] {
         None => true,
@@ -26,7 +26,7 @@ fn has_no_end(table: &[Option<Piece>], vcpu: VcpuNo, low: u32, high: u32) -> boo
     requires sized { length table.now ≡ MAX_VCPUS }
     requires in_round { low < ROUND }
     ensures { (pieces : List Piece) → IsPieceTableOf pieces table.now
-        → (IsTrue result ↔ NoEnd pieces vcpu low high) }
+        → (IsTrue result ↔ NoEdge (λ p. p.to) pieces vcpu low high) }
 {
     match table[vcpu.index()] {
         None => true,

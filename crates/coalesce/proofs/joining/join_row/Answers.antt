@@ -1,7 +1,7 @@
 use Rattle.std.proofs.Common.{map, ap, subst, sym}
 use Rattle.tab_core.specs.declared.TheConstants.{ROUND}
 use Rattle.table_form.specs.Planning.Drafts.{pieces_at}
-use Rattle.table_form.specs.Tables.Segments.{AreMaximal, segment_view}
+use Rattle.table_form.specs.Tables.Segments.{AreMaximal, segment_view, segments_from}
 use Rattle.coalesce.specs.Inside.Passing.{IsPieceTableOf}
 use Rattle.coalesce.specs.Joining.{SwapsTo}
 use Rattle.coalesce.specs.Joining.SwapsTo.{Done}
@@ -18,11 +18,12 @@ pub returns-then-not-has_sliver_between-clause-joined : goal.returns-then-not-ha
 returns-then-not-has_sliver_between-clause-joined c =
     let same = ap (map segment_view) c.in_ok-from_slice.ensures.items in record {
       end = map segment_view c.in_ok-from_slice.field-0.items;
-      swaps = subst (SwapsTo (pieces_at c.args.pieces.now c.args.core) c.args.sliver
-          (map segment_view c.in_ok-from_slice.field-0.items)) c.segments-segments.ensures.maximal
-          (Done (map segment_view c.segments-segments.result.now)
-          (c.has_sliver_between.ensures c.if-not-has_sliver_between.true
-          (pieces_at c.args.pieces.now c.args.core)) (sym same));
+      swaps = subst (λ row. SwapsTo (pieces_at c.args.pieces.now c.args.core) c.args.sliver row
+          (segments_from 0 c.args.row.now)) (sym same)
+          (subst (SwapsTo (pieces_at c.args.pieces.now c.args.core) c.args.sliver
+          (map segment_view c.segments-segments.result.now)) c.segments-segments.ensures.maximal
+          (Done (c.has_sliver_between.ensures c.if-not-has_sliver_between.true
+          (pieces_at c.args.pieces.now c.args.core))));
       fills = c.fill_all.ensures;
     }
 

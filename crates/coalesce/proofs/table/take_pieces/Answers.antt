@@ -1,4 +1,4 @@
-use Rattle.std.proofs.Common.{ℕ, ◌+◌, Option, Some, None, set, length-set, subst, sym, arith}
+use Rattle.std.proofs.Common.{ℕ, ◌+◌, Option, None, set, length-set, subst, sym, arith}
 use Rattle.tab_core.specs.declared.piece.Piece.{Piece}
 use Rattle.coalesce.proofs.Built.{IsLeftOf, left_first, left_less, left_none}
 use Rattle.coalesce.proofs.table.take_pieces.Goals as goal
