@@ -14,7 +14,8 @@ use Rattle.edf_table.proofs.Pieces.{jobs_of-nil}
 use Rattle.edf_table.proofs.LoadLemmas.{demand_in-none}
 use Rattle.edf_table.specs.Overloads.{IsReportedOf, IsReportedOverload, core_of}
 use Rattle.cd_split.specs.Cores.{LackVcpu, ShareCore, pieces_on}
-use Rattle.cd_split.specs.Splitting.{FitsWith, IsOverloadWith, IsPieceOf}
+use Rattle.cd_split.specs.Inside.Search.{IsPieceOf}
+use Rattle.cd_split.specs.Splitting.{FitsWith, IsOverloadWith}
 
 -- its jobs come after those of the others
 pub jobs_of-push : (ps : List Piece) (p : Piece)

@@ -1,8 +1,9 @@
 -- Splitting has one outcome: the cores and the greatest cuts are determined, so are the pieces or
 -- what the refusal tells, and nothing is both split and refused.
-use Rattle.std.proofs.Common.{◌≡◌, ℕ, List, [], ◌∷◌, refl, subst, sym, ap, ◌∙◌, inl, inr, arith}
+use Rattle.std.proofs.Common.{◌≡◌, ◌⊎◌, ℕ, ◌<◌, ◌≤◌, List, [], ◌∷◌, Option, Some, None, length, map, refl, subst, sym, ap, ◌∙◌, inl, inr, arith}
 use Rattle.std.specs.List.{AllZip}
 use Rattle.std.proofs.lemmas.Bool.{cases_eq}
+use Rattle.std.proofs.lemmas.Option.{same_Some}
 use Rattle.tab_core.specs.declared.over.Over.{Over}
 use Rattle.tab_core.specs.declared.periodic.Periodic.{Periodic}
 use Rattle.tab_core.specs.declared.piece.Piece.{Piece}
@@ -10,9 +11,8 @@ use Rattle.table_form.specs.Planning.Jobs.{Job, Subtask}
 use Rattle.table_form.specs.Planning.Demand.{IsFirstOverload, demand_in}
 use Rattle.edf_table.specs.Overloads.{IsReportedOverload}
 use Rattle.cd_split.specs.Shares.{IsSamePiece}
-use Rattle.cd_split.specs.Splitting.{ComesFirst, IsCut, IsFirstCore, IsGreatestCut, IsOverloadWith, IsPieceOf, IsSplit, IsSplitRefused, IsStuck, Left, Refuses, Splits, TakesCut, TakesRest, all_of, core_numbers, cut_of, left_after_cut, rest_of, unused_without}
-use Rattle.cd_split.specs.Splitting.Splits.{AtHome, Cut}
-use Rattle.cd_split.specs.Splitting.Refuses.{NoRoom, AfterCut}
+use Rattle.cd_split.specs.Splitting.{ComesFirst, IsFirstCore, IsGreatestCut, IsOverloadWith, IsSplit, IsSplitRefused, Left, NoneDoes, Splits, TakesCut, TakesRest, all_of, core_numbers, cut_of, left_after_cut, rest_of, share_of, unused_without}
+use Rattle.cd_split.specs.Splitting.Splits.{AtHome, Cut, NoRoom}
 
 -- two cores that come before each other are one
 one_first : (cores : List (List Piece)) (c d : ℕ) → ComesFirst cores c d → ComesFirst cores d c → c ≡ d
@@ -38,19 +38,6 @@ greatest_unique cores left core x y of_x of_y =
     let high = of_y.greatest x of_x.part of_x.fits in
     omega arith
 
--- two greatest cuts have one core
-cut_core : (cores : List (List Piece)) (left : Left) (unused : List ℕ) (c x d y : ℕ)
-    → IsCut cores left unused c x → IsCut cores left unused d y → d ≡ c
-cut_core cores left unused c x d y a b =
-    first_core_unique cores unused (TakesCut cores left) d c b.first a.first
-
--- two greatest cuts have one cost
-cut_cost : (cores : List (List Piece)) (left : Left) (unused : List ℕ) (c x d y : ℕ)
-    → IsCut cores left unused c x → IsCut cores left unused d y → y ≡ x
-cut_cost cores left unused c x d y a b =
-    let same = cut_core cores left unused c x d y a b in
-    greatest_unique cores left c y x (subst (λ e. IsGreatestCut cores left e y) same b.greatest) a.greatest
-
 -- what is left after two greatest cuts is the same
 same_behind : (P : Left → List ℕ → Type 0) (left : Left) (unused : List ℕ) (c x d y : ℕ) → d ≡ c → y ≡ x
     → P (left_after_cut left y) (unused_without d unused) → P (left_after_cut left x) (unused_without c unused)
@@ -59,53 +46,11 @@ same_behind P left unused c x d y core cost h =
     (subst (λ z. P (left_after_cut left z) (unused_without d unused)) cost h)
 
 -- where there is a cut, splitting goes on
-never_stuck : (cores : List (List Piece)) (left : Left) (unused : List ℕ) (core cost : ℕ)
-    → IsStuck cores left unused → IsCut cores left unused core cost → ⊥
-never_stuck cores left unused core cost stuck cut =
-    let two = cut.two_unused in
-    elim stuck.no_cut [ inl few ↦ omega arith | inr none ↦ none core cut.first.unused_core cut.first.does ]
-
--- what splits isn't refused
-never_both : (cores : List (List Piece)) (left : Left) (unused : List ℕ)
-    (pieces : List Piece) (rest : ℕ) (over : List Over) →
-    Splits cores left unused pieces → Refuses cores left unused rest over → ⊥
-never_both cores left unused pieces rest over (AtHome l u core piece first is)
-    (NoRoom l' u' o stuck overs) = stuck.no_home core first.unused_core first.does
-never_both cores left unused pieces rest over (AtHome l u core piece first is)
-    (AfterCut l' u' d y r o cut next) = cut.no_home core first.unused_core first.does
-never_both cores left unused pieces rest over (Cut l u core cost piece ps cut is next)
-    (NoRoom l' u' o stuck overs) = never_stuck cores l u core cost stuck cut
-never_both cores left unused pieces rest over (Cut l u core cost piece ps cut is next)
-    (AfterCut l' u' d y r o cut' next') =
-    never_both cores (left_after_cut l cost) (unused_without core u) ps r o next
-    (same_behind (λ m v. Refuses cores m v r o) l u core cost d y
-    (cut_core cores l u core cost d y cut cut') (cut_cost cores l u core cost d y cut cut') next')
-
--- pieces of one subtask on one core say the same
-same_piece : (c d : ℕ) (s t : Subtask) (p q : Piece) → IsPieceOf c s p → IsPieceOf d t q → c ≡ d
-    → s ≡ t → IsSamePiece p q
-same_piece c d s t p q of_p of_q same_core same_subtask =
-    (of_p.0 ∙ same_core ∙ sym of_q.0, of_p.1 ∙ same_subtask ∙ sym of_q.1)
-
--- what is left splits in one way
-splits_unique : (cores : List (List Piece)) (left : Left) (unused : List ℕ)
-    (ps qs : List Piece) → Splits cores left unused ps → Splits cores left unused qs
-    → AllZip IsSamePiece qs ps
-splits_unique cores left unused ps qs (AtHome l u core p first is) (AtHome l' u' d q first' is') =
-    let same = first_core_unique cores u (TakesRest cores l) d core first' first in
-    (same_piece d core (rest_of l) (rest_of l) q p is' is same refl, tt)
-splits_unique cores left unused ps qs (AtHome l u core p first is) (Cut l' u' d y q qs' cut is' next) =
-    absurd (cut.no_home core first.unused_core first.does)
-splits_unique cores left unused ps qs (Cut l u core cost p ps' cut is next) (AtHome l' u' d q first' is') =
-    absurd (cut.no_home d first'.unused_core first'.does)
-splits_unique cores left unused ps qs (Cut l u core cost p ps' cut is next)
-    (Cut l' u' d y q qs' cut' is' next') =
-    let core_is = cut_core cores l u core cost d y cut cut' in
-    let cost_is = cut_cost cores l u core cost d y cut cut' in (
-      same_piece d core (cut_of l y) (cut_of l cost) q p is' is core_is (ap (cut_of l) cost_is),
-      splits_unique cores (left_after_cut l cost) (unused_without core u) ps' qs' next
-          (same_behind (λ m v. Splits cores m v qs') l u core cost d y core_is cost_is next'),
-    )
+never_uncut : (cores : List (List Piece)) (left : Left) (unused : List ℕ) (core : ℕ) → 2 ≤ length unused
+    → IsFirstCore cores unused (TakesCut cores left) core
+    → (length unused < 2) ⊎ NoneDoes unused (TakesCut cores left) → ⊥
+never_uncut cores left unused core two first (inl few) = omega arith
+never_uncut cores left unused core two first (inr none) = none core first.unused_core first.does
 
 -- jobs have one reported interval on a core
 reported_unique : (core : ℕ) (jobs : List Job) (a b : Over) → IsReportedOverload core jobs a
@@ -139,36 +84,66 @@ overloads_unique cores s (core ∷ unused) (o ∷ os) (p ∷ ps) a b =
     let later = overloads_unique cores s unused os ps a.1 b.1 in
     cc
 
--- what is left is refused in one way
-refuses_unique : (cores : List (List Piece)) (left : Left) (unused : List ℕ) (rest rest' : ℕ)
-    (over over' : List Over) → Refuses cores left unused rest over
-    → Refuses cores left unused rest' over' → (rest ≡ rest') × (over ≡ over')
-refuses_unique cores left unused rest rest' over over' (NoRoom l u o stuck overs)
-    (NoRoom l' u' o' stuck' overs') =
-    (refl, overloads_unique cores (rest_of l) u o o' overs overs')
-refuses_unique cores left unused rest rest' over over' (NoRoom l u o stuck overs)
-    (AfterCut l' u' d y r o' cut next) = absurd (never_stuck cores l u d y stuck cut)
-refuses_unique cores left unused rest rest' over over' (AfterCut l u core cost r o cut next)
-    (NoRoom l' u' o' stuck overs) = absurd (never_stuck cores l u core cost stuck cut)
-refuses_unique cores left unused rest rest' over over' (AfterCut l u core cost r o cut next)
-    (AfterCut l' u' d y r' o' cut' next') =
-    refuses_unique cores (left_after_cut l cost) (unused_without core u) r r' o o' next
-    (same_behind (λ m v. Refuses cores m v r' o') l u core cost d y
-    (cut_core cores l u core cost d y cut cut') (cut_cost cores l u core cost d y cut cut') next')
+-- what is left has one outcome
+splits_unique : (cores : List (List Piece)) (left : Left) (unused : List ℕ) (ss ts : List (ℕ × Subtask))
+    (e f : Option (ℕ × List Over)) → Splits cores left unused ss e → Splits cores left unused ts f
+    → (ss ≡ ts) × (e ≡ f)
+splits_unique cores left unused ss ts e f (AtHome l u c first) (AtHome l' u' d first') =
+    let one : ℕ → List (ℕ × Subtask) = λ n. (n, rest_of l) ∷ [] in
+    (ap one (first_core_unique cores u (TakesRest cores l) c d first first'), refl)
+splits_unique cores left unused ss ts e f (AtHome l u c first)
+    (Cut l' u' d y ts' f' home two first' greatest next) = absurd (home c first.unused_core first.does)
+splits_unique cores left unused ss ts e f (AtHome l u c first) (NoRoom l' u' o home uncut overs) =
+    absurd (home c first.unused_core first.does)
+splits_unique cores left unused ss ts e f (Cut l u c x ss' e' home two first greatest next)
+    (AtHome l' u' d first') = absurd (home d first'.unused_core first'.does)
+splits_unique cores left unused ss ts e f (Cut l u c x ss' e' home two first greatest next)
+    (Cut l' u' d y ts' f' home' two' first' greatest' next') =
+    let core = first_core_unique cores u (TakesCut cores l) d c first' first in
+    let cost = greatest_unique cores l c y x (subst (λ n. IsGreatestCut cores l n y) core greatest') greatest in
+    let rest = splits_unique cores (left_after_cut l x) (unused_without c u) ss' ts' e' f' next
+    (same_behind (λ m v. Splits cores m v ts' f') l u c x d y core cost next') in
+    let one : ℕ → ℕ → List (ℕ × Subtask) → List (ℕ × Subtask) = λ n m us. (n, cut_of l m) ∷ us in
+    (ap (λ n. one n x ss') (sym core) ∙ ap (λ n. one d n ss') (sym cost) ∙ ap (one d y) rest.0, rest.1)
+splits_unique cores left unused ss ts e f (Cut l u c x ss' e' home two first greatest next)
+    (NoRoom l' u' o home' uncut overs) = absurd (never_uncut cores l u c two first uncut)
+splits_unique cores left unused ss ts e f (NoRoom l u o home uncut overs) (AtHome l' u' d first') =
+    absurd (home d first'.unused_core first'.does)
+splits_unique cores left unused ss ts e f (NoRoom l u o home uncut overs)
+    (Cut l' u' d y ts' f' home' two first greatest next) = absurd (never_uncut cores l u d two first uncut)
+splits_unique cores left unused ss ts e f (NoRoom l u o home uncut overs) (NoRoom l' u' o' home' uncut' overs') =
+    let told : List Over → Option (ℕ × List Over) = λ os. Some (l.rest, os) in
+    (refl, ap told (overloads_unique cores (rest_of l) u o o' overs overs'))
+
+-- pieces of the same shares say the same
+same_pieces : (ps qs : List Piece) → map share_of qs ≡ map share_of ps → AllZip IsSamePiece qs ps
+same_pieces [] [] same = tt
+same_pieces [] (q ∷ qs) same = absurd cc
+same_pieces (p ∷ ps) [] same = absurd cc
+same_pieces (p ∷ ps) (q ∷ qs) same =
+    let here : share_of q ≡ share_of p = cc in
+    ((ap (λ (s : ℕ × Subtask). s.0) here, ap (λ (s : ℕ × Subtask). s.1) here), same_pieces ps qs (cc))
 
 -- the pieces of a whole vCPU are one list
 pub one_split : (cores : List (List Piece)) (vcpu : ℕ) (task : Periodic) (ps qs : List Piece)
     → IsSplit cores vcpu task ps → IsSplit cores vcpu task qs → AllZip IsSamePiece qs ps
-one_split cores vcpu task = splits_unique cores (all_of vcpu task) (core_numbers cores)
+one_split cores vcpu task ps qs of_ps of_qs = same_pieces ps qs (splits_unique cores (all_of vcpu task)
+    (core_numbers cores) (map share_of qs) (map share_of ps) None None of_qs of_ps).0
 
 -- a whole vCPU has one refusal
 pub one_refusal : (cores : List (List Piece)) (vcpu : ℕ) (task : Periodic) (rest rest' : ℕ)
     (over over' : List Over) → IsSplitRefused cores vcpu task rest over
     → IsSplitRefused cores vcpu task rest' over' → (rest ≡ rest') × (over ≡ over')
-one_refusal cores vcpu task = refuses_unique cores (all_of vcpu task) (core_numbers cores)
+one_refusal cores vcpu task rest rest' over over' a b =
+    let same = same_Some {A = ℕ × List Over} (rest, over) (rest', over') (splits_unique cores (all_of vcpu task)
+    (core_numbers cores) a.0 b.0 (Some (rest, over)) (Some (rest', over')) a.1 b.1).1 in
+    (ap (λ (t : ℕ × List Over). t.0) same, ap (λ (t : ℕ × List Over). t.1) same)
 
 -- a vCPU isn't both split and refused
 pub split_or_refused : (cores : List (List Piece)) (vcpu : ℕ) (task : Periodic) (pieces : List Piece)
     (rest : ℕ) (over : List Over) → IsSplit cores vcpu task pieces
     → IsSplitRefused cores vcpu task rest over → ⊥
-split_or_refused cores vcpu task = never_both cores (all_of vcpu task) (core_numbers cores)
+split_or_refused cores vcpu task pieces rest over splits refuses =
+    let same = (splits_unique cores (all_of vcpu task) (core_numbers cores) (map share_of pieces) refuses.0
+    None (Some (rest, over)) splits refuses.1).1 in
+    cc

@@ -2,7 +2,7 @@
 -- Source: the C=D scheme of A. Burns, R. I. Davis, P. Wang, F. Zhang, "Partitioned EDF scheduling
 -- for multiprocessors using a C=D task splitting scheme", Real-Time Systems 48, 2012. The order of
 -- the cores and the least piece that is cut off are this project's own.
-use Rattle.std.specs.Prelude.{◌≡◌, ◌≢◌, ◌⊎◌, ℕ, ◌+◌, ◌-◌, ◌<◌, ◌≤◌, ◌==◌, not, List, [], ◌∷◌, ◌++◌, Contains, filter, length}
+use Rattle.std.specs.Prelude.{◌≡◌, ◌≢◌, ◌⊎◌, ℕ, ◌+◌, ◌-◌, ◌<◌, ◌≤◌, ◌==◌, not, List, [], ◌∷◌, ◌++◌, Option, Some, None, Contains, filter, length, map}
 use Rattle.std.specs.List.{AllZip, range_with_len}
 use Rattle.tab_core.specs.declared.over.Over.{Over}
 use Rattle.tab_core.specs.declared.periodic.Periodic.{Periodic}
@@ -17,9 +17,9 @@ use Rattle.cd_split.specs.Cores.{pieces_on}
 abbrev pub FitsWith : List Piece → Subtask → Type 0
 FitsWith pieces s = FitsBeside (jobs_of pieces) s
 
--- the piece is the subtask's, on the core
-abbrev pub IsPieceOf : ℕ → Subtask → Piece → Type 0
-IsPieceOf core s p = (p.core ≡ core) × (subtask_of p ≡ s)
+-- the core of a piece, and the subtask that it stands for
+abbrev pub share_of : Piece → ℕ × Subtask
+share_of p = (p.core, subtask_of p)
 
 -- what is left of a vCPU: `rest` ticks of each period, in windows from `from` on
 pub record Left : Type 0 where
@@ -76,19 +76,6 @@ pub record IsGreatestCut (cores : List (List Piece)) (left : Left) (core cost : 
 abbrev pub TakesCut : List (List Piece) → Left → ℕ → Type 0
 TakesCut cores left core = (cost : ℕ) × (10 ≤ cost) × IsGreatestCut cores left core cost
 
--- rule 2: no core takes the rest, two or more are unused, and this is the first that takes a cut,
--- its greatest
-pub record IsCut (cores : List (List Piece)) (left : Left) (unused : List ℕ) (core cost : ℕ) : Type 0 where
-  pub no_home : NoneDoes unused (TakesRest cores left)
-  pub two_unused : 2 ≤ length unused
-  pub first : IsFirstCore cores unused (TakesCut cores left) core
-  pub greatest : IsGreatestCut cores left core cost
-
--- neither rule finds a core
-pub record IsStuck (cores : List (List Piece)) (left : Left) (unused : List ℕ) : Type 0 where
-  pub no_home : NoneDoes unused (TakesRest cores left)
-  pub no_cut : (length unused < 2) ⊎ NoneDoes unused (TakesCut cores left)
-
 -- the reported overloaded interval of the core's pieces with the subtask
 abbrev pub IsOverloadWith : List (List Piece) → Subtask → ℕ → Over → Type 0
 IsOverloadWith cores s core over = IsReportedOverload core (jobs_of (pieces_on cores core) ++ jobs_of_subtask s) over
@@ -97,27 +84,25 @@ IsOverloadWith cores s core over = IsReportedOverload core (jobs_of (pieces_on c
 abbrev pub unused_without : ℕ → List ℕ → List ℕ
 unused_without core unused = filter (λ other. not (other == core)) unused
 
--- by the rules what is left gets these pieces: rule 1 places the rest on its home, the first core
--- that takes it, and rule 2 cuts and goes on
-pub data Splits (cores : List (List Piece)) : Left → List ℕ → List Piece → Type 0 where
-  AtHome : (left : Left) (unused : List ℕ) (core : ℕ) (piece : Piece)
-      → IsFirstCore cores unused (TakesRest cores left) core → IsPieceOf core (rest_of left) piece
-      → Splits cores left unused (piece ∷ [])
-  Cut : (left : Left) (unused : List ℕ) (core cost : ℕ) (piece : Piece) (pieces : List Piece)
-      → IsCut cores left unused core cost → IsPieceOf core (cut_of left cost) piece →
-      Splits cores (left_after_cut left cost) (unused_without core unused) pieces
-      → Splits cores left unused (piece ∷ pieces)
-
--- by the rules splitting ends without room for the last `rest` ticks, which would make these overloaded
--- intervals on the unused cores, one on each in their order
-pub data Refuses (cores : List (List Piece)) : Left → List ℕ → ℕ → List Over → Type 0 where
-  NoRoom : (left : Left) (unused : List ℕ) (over : List Over) → IsStuck cores left unused
-      → AllZip (IsOverloadWith cores (rest_of left)) unused over →
-      Refuses cores left unused left.rest over
-  AfterCut : (left : Left) (unused : List ℕ) (core cost rest : ℕ) (over : List Over)
-      → IsCut cores left unused core cost →
-      Refuses cores (left_after_cut left cost) (unused_without core unused) rest over
-      → Refuses cores left unused rest over
+-- by the rules what is left is split into these subtasks, each on its core. `None`: the last of them is
+-- at its home. `Some`: so many ticks more have no room, and would make these overloaded intervals on the
+-- unused cores, one on each in their order
+pub data Splits (cores : List (List Piece)) : Left → List ℕ → List (ℕ × Subtask) → Option (ℕ × List Over) → Type 0 where
+  -- rule 1: the home is the first core that takes the rest
+  AtHome : (left : Left) (unused : List ℕ) (core : ℕ) → IsFirstCore cores unused (TakesRest cores left) core
+      → Splits cores left unused ((core, rest_of left) ∷ []) None
+  -- rule 2: no core takes the rest, two or more are unused, the first that takes a cut gets its
+  -- greatest, and what is left goes on
+  Cut : (left : Left) (unused : List ℕ) (core cost : ℕ) (shares : List (ℕ × Subtask))
+      (refused : Option (ℕ × List Over)) → NoneDoes unused (TakesRest cores left) → 2 ≤ length unused
+      → IsFirstCore cores unused (TakesCut cores left) core → IsGreatestCut cores left core cost
+      → Splits cores (left_after_cut left cost) (unused_without core unused) shares refused
+      → Splits cores left unused ((core, cut_of left cost) ∷ shares) refused
+  -- neither rule finds a core
+  NoRoom : (left : Left) (unused : List ℕ) (over : List Over) → NoneDoes unused (TakesRest cores left)
+      → (length unused < 2) ⊎ NoneDoes unused (TakesCut cores left)
+      → AllZip (IsOverloadWith cores (rest_of left)) unused over
+      → Splits cores left unused [] (Some (left.rest, over))
 
 -- the cores' numbers, rising
 abbrev pub core_numbers : List (List Piece) → List ℕ
@@ -125,8 +110,9 @@ core_numbers cores = range_with_len 0 (length cores)
 
 -- the whole vCPU is split into these pieces over all cores
 abbrev pub IsSplit : List (List Piece) → ℕ → Periodic → List Piece → Type 0
-IsSplit cores vcpu task pieces = Splits cores (all_of vcpu task) (core_numbers cores) pieces
+IsSplit cores vcpu task pieces = Splits cores (all_of vcpu task) (core_numbers cores) (map share_of pieces) None
 
 -- by the rules splitting the vCPU over all cores ends without room for its last `rest` ticks
 abbrev pub IsSplitRefused : List (List Piece) → ℕ → Periodic → ℕ → List Over → Type 0
-IsSplitRefused cores vcpu task rest over = Refuses cores (all_of vcpu task) (core_numbers cores) rest over
+IsSplitRefused cores vcpu task rest over = (cuts : List (ℕ × Subtask))
+    × Splits cores (all_of vcpu task) (core_numbers cores) cuts (Some (rest, over))

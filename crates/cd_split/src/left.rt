@@ -16,8 +16,8 @@ pub(crate) struct Left {
 }
 
 impl Left {
-    ghost use Rattle.cd_split.specs.Inside.Search.{left_of};
-    ghost use Rattle.cd_split.specs.Splitting.{IsPieceOf, all_of, cut_of, left_after_cut, rest_of};
+    ghost use Rattle.cd_split.specs.Inside.Search.{IsPieceOf, left_of};
+    ghost use Rattle.cd_split.specs.Splitting.{all_of, cut_of, left_after_cut, rest_of};
 
     // All of the vCPU.
     pub(crate) fn all_of(vcpu: VcpuNo, task: &Periodic) -> Left

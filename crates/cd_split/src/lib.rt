@@ -1,8 +1,8 @@
 //! C=D splitting: one vCPU that has no room whole on a core gets pieces of several cores.
 //!
 //! Each piece but the last has no slack: its window is as long as its cost. The windows follow one
-//! another through the period, so the vCPU is never on two cores at once. `Splits` and `Refuses`
-//! in `specs/Splitting.antt` say which pieces there are, and exactly when there is no room.
+//! another through the period, so the vCPU is never on two cores at once. `Splits` in
+//! `specs/Splitting.antt` says which pieces there are, and exactly when there is no room.
 #![tactic(auto)]
 
 mod core_pieces;

@@ -1,7 +1,7 @@
 -- What the search for a core and for a cut finds.
 use Rattle.std.specs.Prelude.{◌≡◌, ◌⊎◌, ℕ, ◌<◌, ◌≤◌, List, Contains, length, slice_index_or}
 use Rattle.tab_core.specs.declared.piece.Piece.{Piece}
-use Rattle.table_form.specs.Planning.Jobs.{subtask_of}
+use Rattle.table_form.specs.Planning.Jobs.{Subtask, subtask_of}
 use Rattle.cd_split.specs.Cores.{pieces_on}
 use Rattle.cd_split.specs.Splitting.{FitsWith, IsFirstCore, IsGreatestCut, Left, NoneDoes, TakesCut, TakesRest, cut_of, rest_of}
 use Rattle.cd_split.specs.declared.left.Left as code
@@ -10,6 +10,10 @@ use Rattle.cd_split.specs.declared.order.CoreLoad.{CoreLoad}
 -- what is left of the vCPU, without the facts that the code keeps of it
 abbrev pub left_of : code.Left → Left
 left_of left = record { vcpu = left.vcpu; period = left.period; from = left.from; rest = left.rest }
+
+-- the piece is the subtask's, on the core
+abbrev pub IsPieceOf : ℕ → Subtask → Piece → Type 0
+IsPieceOf core s p = (p.core ≡ core) × (subtask_of p ≡ s)
 
 -- no cut of so many ticks or more fits on the core
 abbrev pub IsTooMuch : List (List Piece) → Left → ℕ → ℕ → Type 0

@@ -1,16 +1,17 @@
-use Rattle.std.proofs.Common.{◌≡◌, ◌<◌, ◌==◌, not, [], ◌∷◌, ◌++◌, length, refl, ap, subst, sym, ◌∙◌, arith, rules}
+use Rattle.std.proofs.Common.{◌≡◌, ℕ, ◌<◌, ◌==◌, not, List, [], ◌∷◌, ◌++◌, None, Some, length, map, refl, ap, subst, sym, ◌∙◌, arith, rules}
 use Rattle.std.specs.List.{All, AllZip, range_with_len}
 use Rattle.std.proofs.lemmas.Fn.{filter_same}
-use Rattle.std.proofs.lemmas.List.{append_assoc}
+use Rattle.std.proofs.lemmas.List.{append_assoc, map-append}
 use Rattle.std.proofs.lemmas.List.Filters.{length-filter_both}
 use Rattle.std.proofs.lemmas.List.FromFn.{length-range_with_len}
 use Rattle.std.proofs.lemmas.List.Elements.{All-filter}
 use Rattle.std.proofs.lemmas.Option.{MatchOption-at_none, MatchOption-at_some}
 use Rattle.cd_split.specs.Inside.Search.{IsCutPiece, IsHomePiece, IsHomeless, IsUncut, left_of}
-use Rattle.cd_split.specs.Splitting.{IsOverloadWith, IsSplit, Left, Refuses, Splits, all_of, core_numbers, left_after_cut, rest_of, unused_without}
+use Rattle.table_form.specs.Planning.Jobs.{Subtask}
+use Rattle.cd_split.specs.Splitting.{IsOverloadWith, IsSplit, Left, Splits, all_of, core_numbers, left_after_cut, rest_of, share_of, unused_without}
 use Rattle.tab_core.proofs.Lists.{numbers_below}
-use Rattle.cd_split.proofs.SharesLemmas.{splits_apart, splits_cost, splits_fit, splits_follow, splits_of}
-use Rattle.cd_split.proofs.SearchLemmas.{refuses_after_cut, refuses_here, splits_after_cut, splits_at_home}
+use Rattle.cd_split.proofs.SharesLemmas.{split_into, splits_apart, splits_cost, splits_fit, splits_follow, splits_of}
+use Rattle.cd_split.proofs.SearchLemmas.{splits_after_cut, splits_at_home, splits_no_more}
 use Rattle.cd_split.proofs.Unique.{one_split, split_or_refused}
 use Rattle.cd_split.proofs.splitting.split.Goals as goal
 
@@ -28,12 +29,11 @@ loop-pieces-init c =
       there = subst (All (λ core. core < length cores)) (sym numbers) (numbers_below (length cores));
       few = (let count = ap length numbers ∙ length-range_with_len 0 (length cores) in omega
           (arith, c.cores.ensures.count, c.cores.ensures.few));
-      so_far = λ pieces splits. subst (λ ps. IsSplit cores c.args.vcpu c.args.task (ps ++ pieces))
+      so_far = λ shares refused splits.
+          subst (λ ps. Splits cores all (core_numbers cores) (map share_of ps ++ shares) refused)
           (sym c.new-pieces.ensures.items)
-          (subst (λ u. Splits cores all u pieces) numbers
-          (subst (λ l. Splits cores l unused pieces) left_is splits));
-      refused = λ rest over refuses. subst (λ u. Refuses cores all u rest over) numbers
-          (subst (λ l. Refuses cores l unused rest over) left_is refuses);
+          (subst (λ u. Splits cores all u shares refused) numbers
+          (subst (λ l. Splits cores l unused shares refused) left_is splits));
     }
 
 pub returns-in-Some-clause-pieces : goal.returns-in-Some-clause-pieces
@@ -50,32 +50,39 @@ returns-in-Some-clause-pieces c =
     subst (λ u. IsHomePiece cores left u piece) c.deref-in-loop-pieces.ensures.value home'
     in
     subst (IsSplit cores c.args.vcpu c.args.task) (sym (c.of.ensures ∙ c.in_ok-push.ensures.items))
-    (before.so_far (piece ∷ []) (splits_at_home cores left unused piece home))
+    (subst (λ (ss : List (ℕ × Subtask)). Splits cores (all_of c.args.vcpu c.args.task) (core_numbers cores) ss None)
+    (sym (map-append share_of c.loop-pieces.pieces.items (piece ∷ [])))
+    (before.so_far (share_of piece ∷ []) None (splits_at_home cores left unused piece home)))
 
 pub returns-in-Some-clause-of : goal.returns-in-Some-clause-of
 returns-in-Some-clause-of c =
     splits_of c.args.cores.now (all_of c.args.vcpu c.args.task) (core_numbers c.args.cores.now)
-    c.of.result (returns-in-Some-clause-pieces c)
+    c.of.result
+    (split_into c.args.cores.now c.args.vcpu c.args.task c.of.result (returns-in-Some-clause-pieces c))
 
 pub returns-in-Some-clause-fit : goal.returns-in-Some-clause-fit
 returns-in-Some-clause-fit c =
     splits_fit c.args.cores.now (all_of c.args.vcpu c.args.task) (core_numbers c.args.cores.now)
-    c.of.result (numbers_below (length c.args.cores.now)) (returns-in-Some-clause-pieces c)
+    c.of.result (numbers_below (length c.args.cores.now))
+    (split_into c.args.cores.now c.args.vcpu c.args.task c.of.result (returns-in-Some-clause-pieces c))
 
 pub returns-in-Some-clause-apart : goal.returns-in-Some-clause-apart
 returns-in-Some-clause-apart c =
     splits_apart c.args.cores.now (all_of c.args.vcpu c.args.task) (core_numbers c.args.cores.now)
-    c.of.result (returns-in-Some-clause-pieces c)
+    c.of.result
+    (split_into c.args.cores.now c.args.vcpu c.args.task c.of.result (returns-in-Some-clause-pieces c))
 
 pub returns-in-Some-clause-windows : goal.returns-in-Some-clause-windows
 returns-in-Some-clause-windows c =
     splits_follow c.args.cores.now (all_of c.args.vcpu c.args.task) (core_numbers c.args.cores.now)
-    c.of.result (returns-in-Some-clause-pieces c)
+    c.of.result
+    (split_into c.args.cores.now c.args.vcpu c.args.task c.of.result (returns-in-Some-clause-pieces c))
 
 pub returns-in-Some-clause-cost : goal.returns-in-Some-clause-cost
 returns-in-Some-clause-cost c =
     splits_cost c.args.cores.now (all_of c.args.vcpu c.args.task) (core_numbers c.args.cores.now)
-    c.of.result (returns-in-Some-clause-pieces c)
+    c.of.result
+    (split_into c.args.cores.now c.args.vcpu c.args.task c.of.result (returns-in-Some-clause-pieces c))
 
 pub returns-in-Some-clause-only : goal.returns-in-Some-clause-only
 returns-in-Some-clause-only c = λ other splits. one_split c.args.cores.now c.args.vcpu c.args.task
@@ -113,8 +120,11 @@ returns-in-None-clause-fault c =
     subst (λ u. AllZip (IsOverloadWith cores (rest_of left)) u over)
     c.deref-in-None.ensures.value c.in_ok-over-in-None.ensures in (
       refl,
-      c.loop-pieces.invariant.refused left.rest over
-          (refuses_here cores left unused over homeless uncut overs),
+      (
+        map share_of c.loop-pieces.pieces.items ++ [],
+        c.loop-pieces.invariant.so_far [] (Some (left.rest, over))
+            (splits_no_more cores left unused over homeless uncut overs),
+      ),
     )
 
 pub loop-pieces-preserved : goal.loop-pieces-preserved
@@ -147,17 +157,15 @@ loop-pieces-preserved c =
       few = (let parts = length-filter_both (λ other. not (other == piece.core))
           (λ other. not (not (other == piece.core))) (λ other. refl) unused in
           omega (arith, ap length filtered, before.few));
-      so_far = λ pieces splits. (
-          let next = subst (λ u. Splits cores (left_after_cut left piece.cost) u pieces) filtered
-          (subst (λ l. Splits cores l later pieces) left_is splits) in
-          let joined : c.loop-pieces.pieces.items ++ piece ∷ pieces
-          ≡ c.push-in-Some-2.new.self.items ++ pieces =
-          sym (ap (λ ps. ps ++ pieces) c.in_ok-push-in-Some-2.ensures.items
-          ∙ append_assoc c.loop-pieces.pieces.items (piece ∷ []) pieces) in
-          subst (IsSplit cores c.args.vcpu c.args.task) joined (before.so_far (piece ∷ pieces)
-          (splits_after_cut cores left unused piece pieces homeless cut next)));
-      refused = λ rest over refuses. before.refused rest over
-          (refuses_after_cut cores left unused piece rest over homeless cut
-          (subst (λ u. Refuses cores (left_after_cut left piece.cost) u rest over) filtered
-          (subst (λ l. Refuses cores l later rest over) left_is refuses)));
+      so_far = λ shares refused splits. (
+          let next = subst (λ u. Splits cores (left_after_cut left piece.cost) u shares refused) filtered
+          (subst (λ l. Splits cores l later shares refused) left_is splits) in
+          let cuts = map share_of c.loop-pieces.pieces.items in
+          let joined : cuts ++ share_of piece ∷ shares ≡ map share_of c.push-in-Some-2.new.self.items ++ shares =
+          sym (ap (λ ps. map share_of ps ++ shares) c.in_ok-push-in-Some-2.ensures.items
+          ∙ ap (λ ss. ss ++ shares) (map-append share_of c.loop-pieces.pieces.items (piece ∷ []))
+          ∙ append_assoc cuts (share_of piece ∷ []) shares) in
+          subst (λ ss. Splits cores (all_of c.args.vcpu c.args.task) (core_numbers cores) ss refused) joined
+          (before.so_far (share_of piece ∷ shares) refused
+          (splits_after_cut cores left unused piece shares refused homeless cut next)));
     }
