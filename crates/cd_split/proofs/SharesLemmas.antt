@@ -13,7 +13,7 @@ use Rattle.table_form.specs.Planning.Demand.{Fits}
 use Rattle.cd_split.specs.Cores.{pieces_on, HaveRoomFor}
 use Rattle.cd_split.specs.Shares.{AreOf, FitTheirCores, HaveAdjacentWindows, StandApart}
 use Rattle.cd_split.specs.Inside.Search.{IsPieceOf}
-use Rattle.cd_split.specs.Splitting.{FitsWith, IsFirstCore, IsGreatestCut, IsSplit, Left, Splits, TakesCut, TakesRest, all_of, core_numbers, cut_of, left_after_cut, rest_of, share_of, unused_without}
+use Rattle.cd_split.specs.Splitting.{FitsWith, IsFirstCore, IsGreatestCut, IsSplit, Left, Splits, TakesCut, TakesRest, all_of, core_numbers, cut_of, left_after_cut, rest_of, subtask_on_core, unused_without}
 use Rattle.cd_split.specs.Splitting.Splits.{AtHome, Cut, NoRoom}
 use Rattle.cd_split.proofs.Trials.{jobs_of-push}
 
@@ -52,30 +52,30 @@ pub data SplitsInto (cores : List (List Piece)) : Left → List ℕ → List Pie
       → SplitsInto cores (left_after_cut left cost) (unused_without core unused) pieces
       → SplitsInto cores left unused (piece ∷ pieces)
 
--- the piece of a share
-piece_of : (core : ℕ) (s : Subtask) (p : Piece) → ◌≡◌ {A = ℕ × Subtask} (core, s) (share_of p) → IsPieceOf core s p
+-- a piece of this subtask on this core
+piece_of : (core : ℕ) (s : Subtask) (p : Piece) → ◌≡◌ {A = ℕ × Subtask} (core, s) (subtask_on_core p) → IsPieceOf core s p
 piece_of core s p same = (ap (λ (t : ℕ × Subtask). t.0) (sym same), ap (λ (t : ℕ × Subtask). t.1) (sym same))
 
--- pieces that have these shares are so split
-into_pieces : (cores : List (List Piece)) (left : Left) (unused : List ℕ) (shares : List (ℕ × Subtask))
-    (refused : Option (ℕ × List Over)) (pieces : List Piece) → Splits cores left unused shares refused
-    → shares ≡ map share_of pieces → refused ≡ None → SplitsInto cores left unused pieces
-into_pieces cores left unused shares refused [] (AtHome l u core first) same none = absurd cc
-into_pieces cores left unused shares refused (p ∷ []) (AtHome l u core first) same none =
+-- pieces that have these subtasks are so split
+into_pieces : (cores : List (List Piece)) (left : Left) (unused : List ℕ) (subtasks : List (ℕ × Subtask))
+    (refused : Option (ℕ × List Over)) (pieces : List Piece) → Splits cores left unused subtasks refused
+    → subtasks ≡ map subtask_on_core pieces → refused ≡ None → SplitsInto cores left unused pieces
+into_pieces cores left unused subtasks refused [] (AtHome l u core first) same none = absurd cc
+into_pieces cores left unused subtasks refused (p ∷ []) (AtHome l u core first) same none =
     Home l u core p first (piece_of core (rest_of l) p (cc))
-into_pieces cores left unused shares refused (p ∷ q ∷ ps) (AtHome l u core first) same none = absurd cc
-into_pieces cores left unused shares refused [] (Cut l u core cost ss r home two first greatest next) same none =
+into_pieces cores left unused subtasks refused (p ∷ q ∷ ps) (AtHome l u core first) same none = absurd cc
+into_pieces cores left unused subtasks refused [] (Cut l u core cost ss r home two first greatest next) same none =
     absurd cc
-into_pieces cores left unused shares refused (p ∷ ps) (Cut l u core cost ss r home two first greatest next)
+into_pieces cores left unused subtasks refused (p ∷ ps) (Cut l u core cost ss r home two first greatest next)
     same none = Next l u core cost p ps first greatest (piece_of core (cut_of l cost) p (cc))
     (into_pieces cores (left_after_cut l cost) (unused_without core u) ss r ps next (cc) none)
-into_pieces cores left unused shares refused ps (NoRoom l u over home uncut overs) same none = absurd cc
+into_pieces cores left unused subtasks refused ps (NoRoom l u over home uncut overs) same none = absurd cc
 
 -- the pieces of a whole vCPU are so split
 pub split_into : (cores : List (List Piece)) (vcpu : ℕ) (task : Periodic) (pieces : List Piece)
     → IsSplit cores vcpu task pieces → SplitsInto cores (all_of vcpu task) (core_numbers cores) pieces
 split_into cores vcpu task pieces splits = into_pieces cores (all_of vcpu task) (core_numbers cores)
-    (map share_of pieces) None pieces splits refl refl
+    (map subtask_on_core pieces) None pieces splits refl refl
 
 -- each piece is of the vCPU and has its period
 pub splits_of : (cores : List (List Piece)) (left : Left) (unused : List ℕ) (pieces : List Piece)

@@ -11,7 +11,7 @@ use Rattle.table_form.specs.Planning.Jobs.{Job, Subtask}
 use Rattle.table_form.specs.Planning.Demand.{IsFirstOverload, demand_in}
 use Rattle.edf_table.specs.Overloads.{IsReportedOverload}
 use Rattle.cd_split.specs.Shares.{IsSamePiece}
-use Rattle.cd_split.specs.Splitting.{ComesFirst, IsFirstCore, IsGreatestCut, IsOverloadWith, IsSplit, IsSplitRefused, Left, NoneDoes, Splits, TakesCut, TakesRest, all_of, core_numbers, cut_of, left_after_cut, rest_of, share_of, unused_without}
+use Rattle.cd_split.specs.Splitting.{ComesFirst, IsFirstCore, IsGreatestCut, IsOverloadWith, IsSplit, IsSplitRefused, Left, NoneDoes, Splits, TakesCut, TakesRest, all_of, core_numbers, cut_of, left_after_cut, rest_of, subtask_on_core, unused_without}
 use Rattle.cd_split.specs.Splitting.Splits.{AtHome, Cut, NoRoom}
 
 -- two cores that come before each other are one
@@ -115,20 +115,20 @@ splits_unique cores left unused ss ts e f (NoRoom l u o home uncut overs) (NoRoo
     let told : List Over → Option (ℕ × List Over) = λ os. Some (l.rest, os) in
     (refl, ap told (overloads_unique cores (rest_of l) u o o' overs overs'))
 
--- pieces of the same shares say the same
-same_pieces : (ps qs : List Piece) → map share_of qs ≡ map share_of ps → AllZip IsSamePiece qs ps
+-- pieces of the same subtasks on the same cores say the same
+same_pieces : (ps qs : List Piece) → map subtask_on_core qs ≡ map subtask_on_core ps → AllZip IsSamePiece qs ps
 same_pieces [] [] same = tt
 same_pieces [] (q ∷ qs) same = absurd cc
 same_pieces (p ∷ ps) [] same = absurd cc
 same_pieces (p ∷ ps) (q ∷ qs) same =
-    let here : share_of q ≡ share_of p = cc in
+    let here : subtask_on_core q ≡ subtask_on_core p = cc in
     ((ap (λ (s : ℕ × Subtask). s.0) here, ap (λ (s : ℕ × Subtask). s.1) here), same_pieces ps qs (cc))
 
 -- the pieces of a whole vCPU are one list
 pub one_split : (cores : List (List Piece)) (vcpu : ℕ) (task : Periodic) (ps qs : List Piece)
     → IsSplit cores vcpu task ps → IsSplit cores vcpu task qs → AllZip IsSamePiece qs ps
 one_split cores vcpu task ps qs of_ps of_qs = same_pieces ps qs (splits_unique cores (all_of vcpu task)
-    (core_numbers cores) (map share_of qs) (map share_of ps) None None of_qs of_ps).0
+    (core_numbers cores) (map subtask_on_core qs) (map subtask_on_core ps) None None of_qs of_ps).0
 
 -- a whole vCPU has one refusal
 pub one_refusal : (cores : List (List Piece)) (vcpu : ℕ) (task : Periodic) (rest rest' : ℕ)
@@ -144,6 +144,6 @@ pub split_or_refused : (cores : List (List Piece)) (vcpu : ℕ) (task : Periodic
     (rest : ℕ) (over : List Over) → IsSplit cores vcpu task pieces
     → IsSplitRefused cores vcpu task rest over → ⊥
 split_or_refused cores vcpu task pieces rest over splits refuses =
-    let same = (splits_unique cores (all_of vcpu task) (core_numbers cores) (map share_of pieces) refuses.0
+    let same = (splits_unique cores (all_of vcpu task) (core_numbers cores) (map subtask_on_core pieces) refuses.0
     None (Some (rest, over)) splits refuses.1).1 in
     cc

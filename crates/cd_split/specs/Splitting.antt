@@ -18,8 +18,8 @@ abbrev pub FitsWith : List Piece → Subtask → Type 0
 FitsWith pieces s = FitsBeside (jobs_of pieces) s
 
 -- the core of a piece, and the subtask that it stands for
-abbrev pub share_of : Piece → ℕ × Subtask
-share_of p = (p.core, subtask_of p)
+abbrev pub subtask_on_core : Piece → ℕ × Subtask
+subtask_on_core p = (p.core, subtask_of p)
 
 -- what is left of a vCPU: `rest` ticks of each period, in windows from `from` on
 pub record Left : Type 0 where
@@ -93,11 +93,11 @@ pub data Splits (cores : List (List Piece)) : Left → List ℕ → List (ℕ ×
       → Splits cores left unused ((core, rest_of left) ∷ []) None
   -- rule 2: no core takes the rest, two or more are unused, the first that takes a cut gets its
   -- greatest, and what is left goes on
-  Cut : (left : Left) (unused : List ℕ) (core cost : ℕ) (shares : List (ℕ × Subtask))
+  Cut : (left : Left) (unused : List ℕ) (core cost : ℕ) (subtasks : List (ℕ × Subtask))
       (refused : Option (ℕ × List Over)) → NoneDoes unused (TakesRest cores left) → 2 ≤ length unused
       → IsFirstCore cores unused (TakesCut cores left) core → IsGreatestCut cores left core cost
-      → Splits cores (left_after_cut left cost) (unused_without core unused) shares refused
-      → Splits cores left unused ((core, cut_of left cost) ∷ shares) refused
+      → Splits cores (left_after_cut left cost) (unused_without core unused) subtasks refused
+      → Splits cores left unused ((core, cut_of left cost) ∷ subtasks) refused
   -- neither rule finds a core
   NoRoom : (left : Left) (unused : List ℕ) (over : List Over) → NoneDoes unused (TakesRest cores left)
       → (length unused < 2) ⊎ NoneDoes unused (TakesCut cores left)
@@ -110,7 +110,7 @@ core_numbers cores = range_with_len 0 (length cores)
 
 -- the whole vCPU is split into these pieces over all cores
 abbrev pub IsSplit : List (List Piece) → ℕ → Periodic → List Piece → Type 0
-IsSplit cores vcpu task pieces = Splits cores (all_of vcpu task) (core_numbers cores) (map share_of pieces) None
+IsSplit cores vcpu task pieces = Splits cores (all_of vcpu task) (core_numbers cores) (map subtask_on_core pieces) None
 
 -- by the rules splitting the vCPU over all cores ends without room for its last `rest` ticks
 abbrev pub IsSplitRefused : List (List Piece) → ℕ → Periodic → ℕ → List Over → Type 0

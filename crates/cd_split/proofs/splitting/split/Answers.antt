@@ -8,7 +8,7 @@ use Rattle.std.proofs.lemmas.List.Elements.{All-filter}
 use Rattle.std.proofs.lemmas.Option.{MatchOption-at_none, MatchOption-at_some}
 use Rattle.cd_split.specs.Inside.Search.{IsCutPiece, IsHomePiece, IsHomeless, IsUncut, left_of}
 use Rattle.table_form.specs.Planning.Jobs.{Subtask}
-use Rattle.cd_split.specs.Splitting.{IsOverloadWith, IsSplit, Left, Splits, all_of, core_numbers, left_after_cut, rest_of, share_of, unused_without}
+use Rattle.cd_split.specs.Splitting.{IsOverloadWith, IsSplit, Left, Splits, all_of, core_numbers, left_after_cut, rest_of, subtask_on_core, unused_without}
 use Rattle.tab_core.proofs.Lists.{numbers_below}
 use Rattle.cd_split.proofs.SharesLemmas.{split_into, splits_apart, splits_cost, splits_fit, splits_follow, splits_of}
 use Rattle.cd_split.proofs.SearchLemmas.{splits_after_cut, splits_at_home, splits_no_more}
@@ -29,11 +29,11 @@ loop-pieces-init c =
       there = subst (All (λ core. core < length cores)) (sym numbers) (numbers_below (length cores));
       few = (let count = ap length numbers ∙ length-range_with_len 0 (length cores) in omega
           (arith, c.cores.ensures.count, c.cores.ensures.few));
-      so_far = λ shares refused splits.
-          subst (λ ps. Splits cores all (core_numbers cores) (map share_of ps ++ shares) refused)
+      so_far = λ subtasks refused splits.
+          subst (λ ps. Splits cores all (core_numbers cores) (map subtask_on_core ps ++ subtasks) refused)
           (sym c.new-pieces.ensures.items)
-          (subst (λ u. Splits cores all u shares refused) numbers
-          (subst (λ l. Splits cores l unused shares refused) left_is splits));
+          (subst (λ u. Splits cores all u subtasks refused) numbers
+          (subst (λ l. Splits cores l unused subtasks refused) left_is splits));
     }
 
 pub returns-in-Some-clause-pieces : goal.returns-in-Some-clause-pieces
@@ -51,8 +51,8 @@ returns-in-Some-clause-pieces c =
     in
     subst (IsSplit cores c.args.vcpu c.args.task) (sym (c.of.ensures ∙ c.in_ok-push.ensures.items))
     (subst (λ (ss : List (ℕ × Subtask)). Splits cores (all_of c.args.vcpu c.args.task) (core_numbers cores) ss None)
-    (sym (map-append share_of c.loop-pieces.pieces.items (piece ∷ [])))
-    (before.so_far (share_of piece ∷ []) None (splits_at_home cores left unused piece home)))
+    (sym (map-append subtask_on_core c.loop-pieces.pieces.items (piece ∷ [])))
+    (before.so_far (subtask_on_core piece ∷ []) None (splits_at_home cores left unused piece home)))
 
 pub returns-in-Some-clause-of : goal.returns-in-Some-clause-of
 returns-in-Some-clause-of c =
@@ -121,7 +121,7 @@ returns-in-None-clause-fault c =
     c.deref-in-None.ensures.value c.in_ok-over-in-None.ensures in (
       refl,
       (
-        map share_of c.loop-pieces.pieces.items ++ [],
+        map subtask_on_core c.loop-pieces.pieces.items ++ [],
         c.loop-pieces.invariant.so_far [] (Some (left.rest, over))
             (splits_no_more cores left unused over homeless uncut overs),
       ),
@@ -157,15 +157,15 @@ loop-pieces-preserved c =
       few = (let parts = length-filter_both (λ other. not (other == piece.core))
           (λ other. not (not (other == piece.core))) (λ other. refl) unused in
           omega (arith, ap length filtered, before.few));
-      so_far = λ shares refused splits. (
-          let next = subst (λ u. Splits cores (left_after_cut left piece.cost) u shares refused) filtered
-          (subst (λ l. Splits cores l later shares refused) left_is splits) in
-          let cuts = map share_of c.loop-pieces.pieces.items in
-          let joined : cuts ++ share_of piece ∷ shares ≡ map share_of c.push-in-Some-2.new.self.items ++ shares =
-          sym (ap (λ ps. map share_of ps ++ shares) c.in_ok-push-in-Some-2.ensures.items
-          ∙ ap (λ ss. ss ++ shares) (map-append share_of c.loop-pieces.pieces.items (piece ∷ []))
-          ∙ append_assoc cuts (share_of piece ∷ []) shares) in
+      so_far = λ subtasks refused splits. (
+          let next = subst (λ u. Splits cores (left_after_cut left piece.cost) u subtasks refused) filtered
+          (subst (λ l. Splits cores l later subtasks refused) left_is splits) in
+          let cuts = map subtask_on_core c.loop-pieces.pieces.items in
+          let joined : cuts ++ subtask_on_core piece ∷ subtasks ≡ map subtask_on_core c.push-in-Some-2.new.self.items ++ subtasks =
+          sym (ap (λ ps. map subtask_on_core ps ++ subtasks) c.in_ok-push-in-Some-2.ensures.items
+          ∙ ap (λ ss. ss ++ subtasks) (map-append subtask_on_core c.loop-pieces.pieces.items (piece ∷ []))
+          ∙ append_assoc cuts (subtask_on_core piece ∷ []) subtasks) in
           subst (λ ss. Splits cores (all_of c.args.vcpu c.args.task) (core_numbers cores) ss refused) joined
-          (before.so_far (share_of piece ∷ shares) refused
-          (splits_after_cut cores left unused piece shares refused homeless cut next)));
+          (before.so_far (subtask_on_core piece ∷ subtasks) refused
+          (splits_after_cut cores left unused piece subtasks refused homeless cut next)));
     }

@@ -4,7 +4,7 @@ use Rattle.tab_core.specs.declared.TheConstants.{MAX_CORES}
 use Rattle.tab_core.specs.declared.over.Over.{Over}
 use Rattle.table_form.specs.Planning.Jobs.{Subtask}
 use Rattle.cd_split.specs.Inside.Search.{left_of}
-use Rattle.cd_split.specs.Splitting.{Splits, all_of, core_numbers, share_of}
+use Rattle.cd_split.specs.Splitting.{Splits, all_of, core_numbers, subtask_on_core}
 use Rattle.cd_split.proofs.splitting.split.Given as goal
 
 -- the pieces so far and what comes of what is left are what comes of the vCPU
@@ -13,10 +13,10 @@ invariant-loop-pieces l = record {
   vcpu : l.left.vcpu ≡ l.vcpu;
   there : All (λ core. core < length l.cores) l.unused.items;
   few : length l.unused.items ≤ MAX_CORES;
-  so_far : (shares : List (ℕ × Subtask)) (refused : Option (ℕ × List Over))
-      → Splits l.cores (left_of l.left) l.unused.items shares refused
+  so_far : (subtasks : List (ℕ × Subtask)) (refused : Option (ℕ × List Over))
+      → Splits l.cores (left_of l.left) l.unused.items subtasks refused
       → Splits l.cores (all_of l.vcpu l.fn.task) (core_numbers l.cores)
-      (map share_of l.pieces.items ++ shares) refused;
+      (map subtask_on_core l.pieces.items ++ subtasks) refused;
 }
 
 abbrev pub decreases-loop-pieces : goal.decreases-loop-pieces
