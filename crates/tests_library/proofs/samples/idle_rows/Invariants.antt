@@ -1,6 +1,6 @@
 use Rattle.std.proofs.Common.{◌≡◌, ℕ, length, Some}
 use Rattle.table_form.specs.Tables.Serves.{owner_at}
-use Rattle.tests_running.proofs.samples.idle_rows.Given as goal
+use Rattle.tests_library.proofs.samples.idle_rows.Given as goal
 
 abbrev pub invariant-loop-core : goal.invariant-loop-core
 invariant-loop-core l = record {

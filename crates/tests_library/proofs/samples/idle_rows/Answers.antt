@@ -3,7 +3,7 @@ use Rattle.std.specs.Prelude.{slice_get}
 use Rattle.table_form.specs.Tables.Rows.{Row}
 use Rattle.table_form.specs.Tables.Serves.{owner_at}
 use Rattle.table_form.proofs.SpotLemmas.{flat_some}
-use Rattle.tests_running.proofs.samples.idle_rows.Goals as goal
+use Rattle.tests_library.proofs.samples.idle_rows.Goals as goal
 
 owner_push : (rows : List Row) (row : Row) (c x v : ℕ) → owner_at (rows ++ row ∷ []) c x ≡ Some v
     → (owner_at rows c x ≡ Some v) ⊎ (slice_get row x ≡ Some (Some v))

@@ -1,7 +1,7 @@
 use Rattle.std.proofs.Common.{◌≡◌, ℕ, zero, suc, List, [], ◌++◌, replicate, Option, Some, None}
 use Rattle.std.specs.Prelude.{slice_get}
 use Rattle.tab_core.specs.declared.TheConstants.{ROUND}
-use Rattle.tests_running.proofs.samples.idle_row.Goals as goal
+use Rattle.tests_library.proofs.samples.idle_row.Goals as goal
 
 none_in : (n x v : ℕ) → slice_get (replicate n None) x ≡ Some (Some v) → ⊥
 none_in zero x v h = absurd cc
