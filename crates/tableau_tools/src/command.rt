@@ -1,4 +1,9 @@
-use clap::{Arg, ArgAction, Command, value_parser};
+//! The words of the program, in tables: a row for each word of a command, and one for each command.
+//!
+//! One loop gives them to clap. A call of clap's builders in the program's text costs the prover more than a row.
+
+use clap::builder::ValueParser;
+use clap::{Arg, ArgAction, Command};
 use std::alloc::{AllocError, Global};
 use tab_core::{MAX_CORES, MAX_TICK_NS, MIN_TICK_NS};
 
@@ -10,421 +15,404 @@ const VERSION: &str =
 const MAX_CPU: i64 = 8191;
 
 // The most milliseconds of a window, which are an hour.
-const MAX_WINDOW_MS: u32 = 3_600_000;
+const MAX_WINDOW_MS: i64 = 3_600_000;
+
+// The most hosts that `place` counts.
+const MAX_HOSTS: i64 = 65_535;
+
+// A command and its words, in the order of its help.
+#[derive(Clone, Copy)]
+struct Entry {
+    name: &'static str,
+    about: &'static str,
+    words: &'static [Word],
+}
+
+// A word of a command.
+#[derive(Clone, Copy)]
+struct Word {
+    name: &'static str,
+    kind: Kind,
+    is_required: bool,
+    // Its value where it isn't given, if it has one.
+    default: &'static [&'static str],
+    help: &'static str,
+}
+
+// How a word is given, and which values it takes.
+#[derive(Clone, Copy)]
+enum Kind {
+    // As a value, by its place.
+    Value(ValueParser<'static>),
+    // As one value or more, by their place.
+    List,
+    // As `--name` and a value, which help calls so.
+    Option(&'static str, ValueParser<'static>),
+    // As `--name` alone.
+    Flag,
+}
+
+// Any text.
+const TEXT: ValueParser<'static> = ValueParser::String;
+
+// Any number.
+const NUMBER: ValueParser<'static> = ValueParser::Signed(0, u32::MAX as i64);
+
+// A text that may be left out.
+const VALUE: Word = Word {
+    name: "",
+    kind: Kind::Value(TEXT),
+    is_required: false,
+    default: &[],
+    help: "",
+};
+
+// The text to read.
+const FILE: Word = Word {
+    name: "FILE",
+    help: "The text to read; without it, standard input",
+    ..VALUE
+};
+
+// How long a tick is.
+const TICK: Word = Word {
+    name: "tick",
+    kind: Kind::Option(
+        "NS",
+        ValueParser::Signed(MIN_TICK_NS as i64, MAX_TICK_NS as i64),
+    ),
+    help: "Nanoseconds of a tick; without it, 1001",
+    ..VALUE
+};
+
+// Whether JSON is written.
+const JSON: Word = Word {
+    name: "json",
+    kind: Kind::Flag,
+    help: "One JSON object, for programs",
+    ..VALUE
+};
+
+// Whether comma-separated values are written.
+const CSV: Word = Word {
+    name: "csv",
+    kind: Kind::Flag,
+    help: "A line of comma-separated values for each vCPU, for programs",
+    ..VALUE
+};
+
+// Whether rows are those of vCPUs or of VMs.
+const ROWS: Word = Word {
+    name: "by",
+    kind: Kind::Option("ROWS", ValueParser::Names(&["vcpu", "vm"])),
+    default: &["vcpu"],
+    help: "Rows or lines for vCPUs, or for VMs: a VM is a name's part before the last dot",
+    ..VALUE
+};
+
+// How many cores the host has.
+const CORES: Word = Word {
+    name: "cores",
+    kind: Kind::Option("N", ValueParser::Signed(1, MAX_CORES as i64)),
+    is_required: true,
+    help: "The host's cores, 1 to 32",
+    ..VALUE
+};
+
+// The sizes of its VMs.
+const SIZES: Word = Word {
+    name: "SIZE",
+    kind: Kind::List,
+    help: "VMs of a size, as \"small 18 x 2 20% 20ms\", or one VM, as \"vm mail 4 30% 50ms\"; without it, lines of standard input",
+    ..VALUE
+};
+
+// What `table` takes.
+const TABLE: Entry = Entry {
+    name: "table",
+    about: "Writes the shares, waits and loads of a plan, beside what its host asks for; with --json or --csv also the report of a run",
+    words: &[ROWS, JSON, CSV, FILE, TICK],
+};
+
+// What `chart` takes: what is read, which lanes are drawn, and which part of the time.
+const CHART: Entry = Entry {
+    name: "chart",
+    about: "Draws a plan, replay or trace as a picture, in SVG or as a text",
+    words: &[
+        FILE,
+        Word {
+            name: "text",
+            kind: Kind::Flag,
+            help: "A text for terminals, by core, in place of a picture",
+            ..VALUE
+        },
+        Word {
+            name: "by",
+            kind: Kind::Option("LANES", ValueParser::Names(&["core", "vcpu"])),
+            help: "A lane for each core, or for each vCPU with its longest wait; without it, core",
+            ..VALUE
+        },
+        Word {
+            name: "cores",
+            kind: Kind::Option("FIRST-LAST", TEXT),
+            help: "The cores to draw; without it, all",
+            ..VALUE
+        },
+        Word {
+            name: "vcpus",
+            kind: Kind::Option("FIRST-LAST", TEXT),
+            help: "With --by vcpu, the vCPUs to draw, by number from 0; without it, all",
+            ..VALUE
+        },
+        Word {
+            name: "from",
+            kind: Kind::Option("TICK", NUMBER),
+            help: "The first tick to draw; without it, 0",
+            ..VALUE
+        },
+        Word {
+            name: "to",
+            kind: Kind::Option("TICK", NUMBER),
+            help: "The tick that ends what is drawn; without it, the end of the last round or of the trace",
+            ..VALUE
+        },
+        Word {
+            name: "width",
+            kind: Kind::Option("COUNT", ValueParser::Signed(1, 8000)),
+            help: "Pixels of a picture's width, 200 to 8000, and 1500 without it, or columns of a text, 76 without it",
+            ..VALUE
+        },
+        TICK,
+    ],
+};
+
+// What `diff` takes.
+const DIFF: Entry = Entry {
+    name: "diff",
+    about: "Writes what differs between two plans; ends with 1 where they differ, 2 for a fault",
+    words: &[
+        ROWS,
+        JSON,
+        CSV,
+        Word {
+            name: "OLD",
+            is_required: true,
+            help: "A plan text",
+            ..VALUE
+        },
+        Word {
+            name: "NEW",
+            is_required: true,
+            help: "Another plan text",
+            ..VALUE
+        },
+        TICK,
+    ],
+};
+
+// What `report` takes.
+const REPORT: Entry = Entry {
+    name: "report",
+    about: "Writes one page of HTML with the tables and pictures of a plan, or the pictures of a run",
+    words: &[
+        Word {
+            name: "FILE",
+            help: "A host and its plan, or a host, a script and the trace of its run, with a line %% between each two; without it, standard input",
+            ..VALUE
+        },
+        Word {
+            name: "old",
+            kind: Kind::Option("FILE", TEXT),
+            help: "An older plan text, with which the plan is compared",
+            ..VALUE
+        },
+    ],
+};
+
+// What `export` takes.
+const EXPORT: Entry = Entry {
+    name: "export",
+    about: "Writes a plan, replay or trace for other programs, or a plan for the scheduler of a host",
+    words: &[
+        Word {
+            name: "FORMAT",
+            kind: Kind::Value(ValueParser::Names(&[
+                "csv", "chrome", "json", "rtds", "deadline", "cgroup", "libvirt",
+            ])),
+            is_required: true,
+            help: "The text to write: comma-separated values, trace events, JSON; lines for Xen's RTDS, for Linux's deadline tasks or cgroups, or for libvirt",
+            ..VALUE
+        },
+        FILE,
+        TICK,
+        Word {
+            name: "first-cpu",
+            kind: Kind::Option("N", ValueParser::Signed(0, MAX_CPU)),
+            help: "In lines for a scheduler, the CPU that core 0 is; without it, 0",
+            ..VALUE
+        },
+        Word {
+            name: "full",
+            kind: Kind::Flag,
+            help: "With deadline, all of a core, and not 95 percent: the lines tell the kernel so",
+            ..VALUE
+        },
+        Word {
+            name: "map",
+            kind: Kind::Option("MAP", TEXT),
+            help: "In lines for a scheduler, a file of lines NAME GUEST N for vCPUs whose names aren't GUEST.N",
+            ..VALUE
+        },
+    ],
+};
+
+// What `judge` takes.
+const JUDGE: Entry = Entry {
+    name: "judge",
+    about: "Writes whether a host kept its promises, by a trace of what ran; ends with 1 where it didn't, 2 for a fault",
+    words: &[
+        Word {
+            name: "HOST",
+            is_required: true,
+            help: "A host document: what its vCPUs have reserved",
+            ..VALUE
+        },
+        Word {
+            name: "TRACE",
+            help: "Lines TIME_NS,VCPU,STATE or TIME_NS,VCPU,STATE,CPU; without it, or as -, standard input",
+            ..VALUE
+        },
+        Word {
+            name: "window",
+            kind: Kind::Option("MS", ValueParser::Signed(1, MAX_WINDOW_MS)),
+            default: &["1000"],
+            help: "Milliseconds of the windows in which shares are counted, 1 to 3600000",
+            ..VALUE
+        },
+        JSON,
+    ],
+};
+
+// What `sections` takes.
+const SECTIONS: Entry = Entry {
+    name: "sections",
+    about: "Writes files as the sections of one text, with a line %% between each two",
+    words: &[Word {
+        name: "FILE",
+        kind: Kind::List,
+        is_required: true,
+        help: "The files of the sections, in their order",
+        ..VALUE
+    }],
+};
+
+// What `host` takes.
+const HOST: Entry = Entry {
+    name: "host",
+    about: "Writes the host document of sizes of VMs",
+    words: &[CORES, TICK, SIZES],
+};
+
+// What `fit` takes.
+const FIT: Entry = Entry {
+    name: "fit",
+    about: "Writes how VMs of sizes fit a host, and how many more of each would; ends with 3 where they don't fit",
+    words: &[CORES, TICK, SIZES],
+};
+
+// What `place` takes: which hosts there are, what is kept of an earlier placing, and what is written.
+const PLACE: Entry = Entry {
+    name: "place",
+    about: "Writes which VM of sizes goes on which host; ends with 3 where VMs are left over",
+    words: &[
+        Word {
+            name: "hosts",
+            kind: Kind::Option("N", ValueParser::Signed(1, MAX_HOSTS)),
+            help: "The hosts, 1 to 65535",
+            ..VALUE
+        },
+        Word {
+            is_required: false,
+            help: "The cores of each host, 1 to 32",
+            ..CORES
+        },
+        Word {
+            name: "kinds",
+            kind: Kind::Option("FILE", TEXT),
+            help: "Hosts of several kinds, in place of --hosts and --cores: lines KIND CORES COUNT",
+            ..VALUE
+        },
+        Word {
+            name: "stay",
+            kind: Kind::Option("FILE", TEXT),
+            help: "The lines of an earlier placing: VMs stay on their hosts where they can",
+            ..VALUE
+        },
+        Word {
+            name: "host",
+            kind: Kind::Option("K", NUMBER),
+            help: "The document of host K, from 0, in place of lines",
+            ..VALUE
+        },
+        Word {
+            name: "documents",
+            kind: Kind::Flag,
+            help: "The documents of all hosts, with a line %% between each two",
+            ..VALUE
+        },
+        Word {
+            name: "summary",
+            kind: Kind::Flag,
+            help: "How full each host is, in place of lines",
+            ..VALUE
+        },
+        TICK,
+        SIZES,
+    ],
+};
+
+// The commands, in the order of the program's help.
+const COMMANDS: [Entry; 10] = [
+    TABLE, CHART, DIFF, REPORT, EXPORT, JUDGE, SECTIONS, HOST, FIT, PLACE,
+];
 
 /// The words of the program.
 pub(crate) fn command<'a>(alloc: Global) -> Result<Command<'a>, AllocError> {
-    let command = Command::new(alloc, "tableau-tools")
+    let mut commands = Vec::new(alloc);
+    for entry in &COMMANDS {
+        commands.push(command_of(alloc, entry)?)?;
+    }
+    Command::new(alloc, "tableau-tools")
         .version(VERSION)
         .about("Shows what tableau wrote, and writes what it reads")
         .subcommand_required(true)
-        .arg_required_else_help(true);
-    let command = with_command(command, table_command(alloc))?;
-    let command = with_command(command, chart_command(alloc))?;
-    let command = with_command(command, diff_command(alloc))?;
-    let command = with_command(command, report_command(alloc))?;
-    let command = with_command(command, export_command(alloc))?;
-    let command = with_command(command, judge_command(alloc))?;
-    let command = with_command(command, sections_command(alloc))?;
-    let command = with_command(command, host_command(alloc))?;
-    let command = with_command(command, fit_command(alloc))?;
-    with_command(command, place_command(alloc))
+        .arg_required_else_help(true)
+        .subcommands(commands)
 }
 
-// The command with another below it. (One alone is held where memory runs out: to let go of several takes minutes
-// of proof. So it is with arguments: none is held while another is added.)
-fn with_command<'a>(
-    command: Command<'a>,
-    other: Result<Command<'a>, AllocError>,
-) -> Result<Command<'a>, AllocError> {
-    command.subcommand(other?)
+// A command with its words.
+fn command_of<'a>(alloc: Global, entry: &Entry) -> Result<Command<'a>, AllocError> {
+    let mut words = Vec::new(alloc);
+    for word in entry.words {
+        words.push(arg_of(alloc, word))?;
+    }
+    Command::new(alloc, entry.name)
+        .about(entry.about)
+        .args(words)
 }
 
-// The words of `chart`.
-fn chart_command<'a>(alloc: Global) -> Result<Command<'a>, AllocError> {
-    let command = Command::new(alloc, "chart")
-        .about("Draws a plan, replay or trace as a picture, in SVG or as a text")
-        .arg(file_arg(alloc))?
-        .arg(text_arg(alloc))?
-        .arg(by_arg(alloc))?;
-    with_part(alloc, with_lanes(alloc, command)?)
-}
-
-// The command with the lanes that are drawn.
-fn with_lanes<'a>(alloc: Global, command: Command<'a>) -> Result<Command<'a>, AllocError> {
-    command
-        .arg(lanes_arg(alloc, "cores", "The cores to draw; without it, all"))?
-        .arg(lanes_arg(
-            alloc,
-            "vcpus",
-            "With --by vcpu, the vCPUs to draw, by number from 0; without it, all",
-        ))
-}
-
-// The command with the part of the time that is drawn, and its size.
-fn with_part<'a>(alloc: Global, command: Command<'a>) -> Result<Command<'a>, AllocError> {
-    command
-        .arg(number_arg(
-            alloc,
-            "from",
-            "TICK",
-            "The first tick to draw; without it, 0",
-        ))?
-        .arg(number_arg(
-            alloc,
-            "to",
-            "TICK",
-            "The tick that ends what is drawn; without it, the end of the last round or of the trace",
-        ))?
-        .arg(width_arg(alloc))?
-        .arg(tick_arg(alloc))
-}
-
-// Whether lanes are those of cores or of vCPUs.
-fn by_arg<'a>(alloc: Global) -> Arg<'a> {
-    Arg::new(alloc, "by")
-        .long("by")
-        .value_name("LANES")
-        .value_parser(["core", "vcpu"].as_slice())
-        .help("A lane for each core, or for each vCPU with its longest wait; without it, core")
-}
-
-// Which lanes are drawn.
-fn lanes_arg<'a>(alloc: Global, name: &'a str, help: &'a str) -> Arg<'a> {
-    Arg::new(alloc, name)
-        .long(name)
-        .value_name("FIRST-LAST")
-        .help(help)
-}
-
-// A number.
-fn number_arg<'a>(alloc: Global, name: &'a str, value: &'a str, help: &'a str) -> Arg<'a> {
-    Arg::new(alloc, name)
-        .long(name)
-        .value_name(value)
-        .value_parser(value_parser!(u32))
-        .help(help)
-}
-
-// Whether a text is written.
-fn text_arg<'a>(alloc: Global) -> Arg<'a> {
-    Arg::new(alloc, "text")
-        .long("text")
-        .action(ArgAction::SetTrue)
-        .help("A text for terminals, by core, in place of a picture")
-}
-
-// How wide a picture or a text is.
-fn width_arg<'a>(alloc: Global) -> Arg<'a> {
-    Arg::new(alloc, "width")
-        .long("width")
-        .value_name("COUNT")
-        .value_parser(value_parser!(u32).range(1..=8000))
-        .help(
-            "Pixels of a picture's width, 200 to 8000, and 1500 without it, or columns of a text, 76 without it",
-        )
-}
-
-// The words of `export`.
-fn export_command<'a>(alloc: Global) -> Result<Command<'a>, AllocError> {
-    Command::new(alloc, "export")
-        .about(
-            "Writes a plan, replay or trace for other programs, or a plan for the scheduler of a host",
-        )
-        .arg(format_arg(alloc))?
-        .arg(file_arg(alloc))?
-        .arg(tick_arg(alloc))?
-        .arg(first_cpu_arg(alloc))?
-        .arg(full_arg(alloc))?
-        .arg(map_arg(alloc))
-}
-
-// The form of an export.
-fn format_arg<'a>(alloc: Global) -> Arg<'a> {
-    Arg::new(alloc, "FORMAT")
-        .required(true)
-        .value_parser([
-            "csv", "chrome", "json", "rtds", "deadline", "cgroup", "libvirt",
-        ]
-        .as_slice())
-        .help(
-            "The text to write: comma-separated values, trace events, JSON; lines for Xen's RTDS, for Linux's deadline tasks or cgroups, or for libvirt",
-        )
-}
-
-// Which CPU the first core is.
-fn first_cpu_arg<'a>(alloc: Global) -> Arg<'a> {
-    Arg::new(alloc, "first-cpu")
-        .long("first-cpu")
-        .value_name("N")
-        .value_parser(value_parser!(u32).range(0..=MAX_CPU))
-        .help("In lines for a scheduler, the CPU that core 0 is; without it, 0")
-}
-
-// Whether the kernel is set to admit whole cores.
-fn full_arg<'a>(alloc: Global) -> Arg<'a> {
-    Arg::new(alloc, "full")
-        .long("full")
-        .action(ArgAction::SetTrue)
-        .help("With deadline, all of a core, and not 95 percent: the lines tell the kernel so")
-}
-
-// Which vCPU of which guest each vCPU is.
-fn map_arg<'a>(alloc: Global) -> Arg<'a> {
-    Arg::new(alloc, "map").long("map").value_name("MAP").help(
-        "In lines for a scheduler, a file of lines NAME GUEST N for vCPUs whose names aren't GUEST.N",
-    )
-}
-
-// The words of `table`.
-fn table_command<'a>(alloc: Global) -> Result<Command<'a>, AllocError> {
-    Command::new(alloc, "table")
-        .about(
-            "Writes the shares, waits and loads of a plan, beside what its host asks for; with --json or --csv also the report of a run",
-        )
-        .arg(rows_arg(alloc))?
-        .arg(json_arg(alloc))?
-        .arg(csv_arg(alloc))?
-        .arg(file_arg(alloc))?
-        .arg(tick_arg(alloc))
-}
-
-// Whether rows are those of vCPUs or of VMs.
-fn rows_arg<'a>(alloc: Global) -> Arg<'a> {
-    Arg::new(alloc, "by")
-        .long("by")
-        .value_name("ROWS")
-        .value_parser(["vcpu", "vm"].as_slice())
-        .default_value("vcpu")
-        .help("Rows or lines for vCPUs, or for VMs: a VM is a name's part before the last dot")
-}
-
-// The words of `diff`.
-fn diff_command<'a>(alloc: Global) -> Result<Command<'a>, AllocError> {
-    Command::new(alloc, "diff")
-        .about(
-            "Writes what differs between two plans; ends with 1 where they differ, 2 for a fault",
-        )
-        .arg(rows_arg(alloc))?
-        .arg(json_arg(alloc))?
-        .arg(csv_arg(alloc))?
-        .arg(named_arg(alloc, "OLD", "A plan text"))?
-        .arg(named_arg(alloc, "NEW", "Another plan text"))?
-        .arg(tick_arg(alloc))
-}
-
-// A file that has to be named.
-fn named_arg<'a>(alloc: Global, name: &'a str, help: &'a str) -> Arg<'a> {
-    Arg::new(alloc, name).required(true).help(help)
-}
-
-// The words of `report`.
-fn report_command<'a>(alloc: Global) -> Result<Command<'a>, AllocError> {
-    Command::new(alloc, "report")
-        .about(
-            "Writes one page of HTML with the tables and pictures of a plan, or the pictures of a run",
-        )
-        .arg(sections_arg(alloc))?
-        .arg(old_arg(alloc))
-}
-
-// The sections to read.
-fn sections_arg<'a>(alloc: Global) -> Arg<'a> {
-    Arg::new(alloc, "FILE").help(
-        "A host and its plan, or a host, a script and the trace of its run, with a line %% between each two; without it, standard input",
-    )
-}
-
-// An older plan.
-fn old_arg<'a>(alloc: Global) -> Arg<'a> {
-    Arg::new(alloc, "old")
-        .long("old")
-        .value_name("FILE")
-        .help("An older plan text, with which the plan is compared")
-}
-
-// The words of `judge`.
-fn judge_command<'a>(alloc: Global) -> Result<Command<'a>, AllocError> {
-    Command::new(alloc, "judge")
-        .about(
-            "Writes whether a host kept its promises, by a trace of what ran; ends with 1 where it didn't, 2 for a fault",
-        )
-        .arg(named_arg(
-            alloc,
-            "HOST",
-            "A host document: what its vCPUs have reserved",
-        ))?
-        .arg(trace_arg(alloc))?
-        .arg(window_arg(alloc))?
-        .arg(json_arg(alloc))
-}
-
-// Whether JSON is written.
-fn json_arg<'a>(alloc: Global) -> Arg<'a> {
-    Arg::new(alloc, "json")
-        .long("json")
-        .action(ArgAction::SetTrue)
-        .help("One JSON object, for programs")
-}
-
-// Whether comma-separated values are written.
-fn csv_arg<'a>(alloc: Global) -> Arg<'a> {
-    Arg::new(alloc, "csv")
-        .long("csv")
-        .action(ArgAction::SetTrue)
-        .help("A line of comma-separated values for each vCPU, for programs")
-}
-
-// The trace to judge.
-fn trace_arg<'a>(alloc: Global) -> Arg<'a> {
-    Arg::new(alloc, "TRACE").help(
-        "Lines TIME_NS,VCPU,STATE or TIME_NS,VCPU,STATE,CPU; without it, or as -, standard input",
-    )
-}
-
-// How long a window is.
-fn window_arg<'a>(alloc: Global) -> Arg<'a> {
-    Arg::new(alloc, "window")
-        .long("window")
-        .value_name("MS")
-        .value_parser(value_parser!(u32).range(1..=i64::from(MAX_WINDOW_MS)))
-        .default_value("1000")
-        .help("Milliseconds of the windows in which shares are counted, 1 to 3600000")
-}
-
-// The words of `sections`.
-fn sections_command<'a>(alloc: Global) -> Result<Command<'a>, AllocError> {
-    let files = Arg::new(alloc, "FILE")
-        .required(true)
-        .action(ArgAction::Append)
-        .num_args(1..)
-        .help("The files of the sections, in their order");
-    Command::new(alloc, "sections")
-        .about("Writes files as the sections of one text, with a line %% between each two")
-        .arg(files)
-}
-
-// The words of `host`.
-fn host_command<'a>(alloc: Global) -> Result<Command<'a>, AllocError> {
-    Command::new(alloc, "host")
-        .about("Writes the host document of sizes of VMs")
-        .arg(cores_arg(alloc))?
-        .arg(tick_arg(alloc))?
-        .arg(sizes_arg(alloc))
-}
-
-// The words of `fit`.
-fn fit_command<'a>(alloc: Global) -> Result<Command<'a>, AllocError> {
-    Command::new(alloc, "fit")
-        .about(
-            "Writes how VMs of sizes fit a host, and how many more of each would; ends with 3 where they don't fit",
-        )
-        .arg(cores_arg(alloc))?
-        .arg(tick_arg(alloc))?
-        .arg(sizes_arg(alloc))
-}
-
-// The words of `place`.
-fn place_command<'a>(alloc: Global) -> Result<Command<'a>, AllocError> {
-    let command = Command::new(alloc, "place")
-        .about("Writes which VM of sizes goes on which host; ends with 3 where VMs are left over")
-        .arg(hosts_arg(alloc))?
-        .arg(fleet_cores_arg(alloc))?
-        .arg(path_arg(
-            alloc,
-            "kinds",
-            "Hosts of several kinds, in place of --hosts and --cores: lines KIND CORES COUNT",
-        ))?;
-    let command = with_wanted(alloc, command)?;
-    command.arg(tick_arg(alloc))?.arg(sizes_arg(alloc))
-}
-
-// The command with what is kept, and what is written.
-fn with_wanted<'a>(alloc: Global, command: Command<'a>) -> Result<Command<'a>, AllocError> {
-    command
-        .arg(path_arg(
-            alloc,
-            "stay",
-            "The lines of an earlier placing: VMs stay on their hosts where they can",
-        ))?
-        .arg(number_arg(
-            alloc,
-            "host",
-            "K",
-            "The document of host K, from 0, in place of lines",
-        ))?
-        .arg(flag_arg(
-            alloc,
-            "documents",
-            "The documents of all hosts, with a line %% between each two",
-        ))?
-        .arg(flag_arg(alloc, "summary", "How full each host is, in place of lines"))
-}
-
-// How many hosts there are.
-fn hosts_arg<'a>(alloc: Global) -> Arg<'a> {
-    Arg::new(alloc, "hosts")
-        .long("hosts")
-        .value_name("N")
-        .value_parser(value_parser!(u32).range(1..=65_535))
-        .help("The hosts, 1 to 65535")
-}
-
-// How many cores each of them has.
-fn fleet_cores_arg<'a>(alloc: Global) -> Arg<'a> {
-    Arg::new(alloc, "cores")
-        .long("cores")
-        .value_name("N")
-        .value_parser(value_parser!(u32).range(1..=i64::from(MAX_CORES)))
-        .help("The cores of each host, 1 to 32")
-}
-
-// The path of a file.
-fn path_arg<'a>(alloc: Global, name: &'a str, help: &'a str) -> Arg<'a> {
-    Arg::new(alloc, name)
-        .long(name)
-        .value_name("FILE")
-        .help(help)
-}
-
-// A word that is given or not.
-fn flag_arg<'a>(alloc: Global, name: &'a str, help: &'a str) -> Arg<'a> {
-    Arg::new(alloc, name)
-        .long(name)
-        .action(ArgAction::SetTrue)
-        .help(help)
-}
-
-// How many cores the host has.
-fn cores_arg<'a>(alloc: Global) -> Arg<'a> {
-    Arg::new(alloc, "cores")
-        .long("cores")
-        .value_name("N")
-        .required(true)
-        .value_parser(value_parser!(u32).range(1..=i64::from(MAX_CORES)))
-        .help("The host's cores, 1 to 32")
-}
-
-// The sizes of its VMs.
-fn sizes_arg<'a>(alloc: Global) -> Arg<'a> {
-    Arg::new(alloc, "SIZE")
-        .action(ArgAction::Append)
-        .num_args(1..)
-        .help(
-            "VMs of a size, as \"small 18 x 2 20% 20ms\", or one VM, as \"vm mail 4 30% 50ms\"; without it, lines of standard input",
-        )
-}
-
-// The file to read.
-fn file_arg<'a>(alloc: Global) -> Arg<'a> {
-    Arg::new(alloc, "FILE").help("The text to read; without it, standard input")
-}
-
-// How long a tick is.
-fn tick_arg<'a>(alloc: Global) -> Arg<'a> {
-    Arg::new(alloc, "tick")
-        .long("tick")
-        .value_name("NS")
-        .value_parser(value_parser!(u32).range(i64::from(MIN_TICK_NS)..=i64::from(MAX_TICK_NS)))
-        .help("Nanoseconds of a tick; without it, 1001")
+// A word as clap takes it.
+fn arg_of<'a>(alloc: Global, word: &Word) -> Arg<'a> {
+    let arg = Arg::new(alloc, word.name)
+        .required(word.is_required)
+        .default_values(word.default)
+        .help(word.help);
+    match word.kind {
+        Kind::Value(values) => arg.value_parser(values),
+        Kind::List => arg.action(ArgAction::Append).num_args(1..),
+        Kind::Option(value, values) => {
+            arg.long(word.name).value_name(value).value_parser(values)
+        }
+        Kind::Flag => arg.long(word.name).action(ArgAction::SetTrue),
+    }
 }
