@@ -94,19 +94,35 @@ fn told(rt: &HostRuntime, error: &Error, status: u8) -> Result<u8, Fault> {
 // Does the command that was met, and gives its status.
 fn dispatch(rt: &HostRuntime, matches: &ArgMatches<'_>) -> Result<u8, Fault> {
     match matches.subcommand() {
-        Some(("chart", matches)) => chart(rt, &chart_words(matches))?,
-        Some(("export", matches)) => export(rt, matches)?,
-        Some(("table", matches)) => table(rt, &table_words(matches, form_words(matches)?))?,
-        Some(("report", matches)) => report(rt, matches.get_str("FILE"), matches.get_str("old"))?,
-        Some(("sections", matches)) => sections(rt, matches.get_strs("FILE").unwrap_or_default())?,
-        Some(("host", matches)) => host(rt, &size_words(matches))?,
-        Some(("fit", matches)) => return Ok(status_of(fit(rt, &size_words(matches))?)),
-        Some(("place", matches)) => return Ok(status_of(place_vms(rt, &place_words(matches))?)),
-        Some(("diff", matches)) => return differs(rt, matches),
-        Some(("judge", matches)) => return Ok(u8::from(!judge(rt, &judge_words(matches))?)),
-        _ => {}
+        Some(("diff", matches)) => differs(rt, matches),
+        Some(("judge", matches)) => judged(rt, matches),
+        Some(("fit", matches)) => status_of(fit(rt, &size_words(matches))),
+        Some(("place", matches)) => status_of(place_vms(rt, &place_words(matches))),
+        Some((name, matches)) => {
+            write(rt, name, matches)?;
+            Ok(0)
+        }
+        None => Ok(0),
     }
-    Ok(0)
+}
+
+// Does the command of this name, which answers nothing.
+fn write(rt: &HostRuntime, name: &str, matches: &ArgMatches<'_>) -> Result<(), Fault> {
+    match name {
+        "chart" => chart(rt, &chart_words(matches)),
+        "export" => export(rt, matches),
+        "table" => tables(rt, matches),
+        "report" => report(rt, matches.get_str("FILE"), matches.get_str("old")),
+        "sections" => sections(rt, matches.get_strs("FILE").unwrap_or_default()),
+        "host" => host(rt, &size_words(matches)),
+        _ => Ok(()),
+    }
+}
+
+// Does `table`.
+fn tables(rt: &HostRuntime, matches: &ArgMatches<'_>) -> Result<(), Fault> {
+    let form = form_words(matches)?;
+    table(rt, &table_words(matches, form))
 }
 
 // Does `diff`, and gives its status: 1 where the plans differ.
@@ -115,7 +131,12 @@ fn differs(rt: &HostRuntime, matches: &ArgMatches<'_>) -> Result<u8, Fault> {
     Ok(u8::from(diff(rt, &diff_words(matches, form))?))
 }
 
+// Does `judge`, and gives its status: 1 where a promise was broken.
+fn judged(rt: &HostRuntime, matches: &ArgMatches<'_>) -> Result<u8, Fault> {
+    Ok(u8::from(!judge(rt, &judge_words(matches))?))
+}
+
 // The status of `fit` and `place` by what they answer.
-fn status_of(is_planned: bool) -> u8 {
-    if is_planned { 0 } else { NO_PLAN }
+fn status_of(is_planned: Result<bool, Fault>) -> Result<u8, Fault> {
+    Ok(if is_planned? { 0 } else { NO_PLAN })
 }
