@@ -9,7 +9,7 @@ use crate::enough::more_hosts;
 use crate::fleet::{Fleet, fleet_of};
 use crate::hosts::text_of;
 use crate::vms::{NamedVm, named_vms, vms_of};
-use fleet_place::{FleetHost, Group, Placing, Vm, place, write_placing, write_summary};
+use fleet_place::{FleetHost, Group, PlaceFault, Placing, Vm, place, write_placing, write_summary};
 use std::alloc::Global;
 use tab_core::{MAX_TICK_NS, MIN_TICK_NS, TICK_NS};
 use tool_input::{Fault, finish, output_of};
@@ -165,7 +165,8 @@ pub(crate) fn placed<'a>(
 {
     match place(alloc, tick_ns, groups, others) {
         Ok(placing) => Ok(placing),
-        Err(fault) => Err(Fault::from(fault)),
+        Err(PlaceFault::NoHost(fault)) => Err(Fault::from(fault)),
+        Err(PlaceFault::NoMemory) => Err(Fault::NoMemory),
     }
 }
 

@@ -1,15 +1,13 @@
 use crate::unkept::Refusal;
-use fleet_place::PlaceFault;
 use host_doc::HostFault;
 use sizes_doc::SizesFault;
 use std::alloc::{AllocError, AllocFailed};
-use std::io;
+use std::{fmt, io};
 use tab_io::WriteFault;
 use thiserror::Error;
-use view_lanes::ChartFault;
 
 /// Why a command doesn't end well. A place is the name of a file with a colon and a space, or nothing.
-#[derive(Debug, Drop, Error)]
+#[derive(Drop, Error)]
 pub enum Fault {
     #[error("{place}line {line} isn't of a plan, a replay or a trace, or isn't in its place: '{text}'")]
     BadLine {
@@ -225,6 +223,13 @@ pub enum Fault {
     WriteFault,
 }
 
+// (Nothing shows it but as its line, and a derived `Debug` of so many kinds takes the prover long.)
+impl fmt::Debug for Fault {
+    fn fmt<W: fmt::Write>(&self, f: &mut fmt::Formatter<W>) -> fmt::Result {
+        fmt::Display::fmt(self, f)
+    }
+}
+
 impl Fault {
     /// The status of a command that ends so: those of `tableau`.
     pub fn status(&self) -> u8 {
@@ -268,30 +273,11 @@ impl From<WriteFault> for Fault {
     }
 }
 
-impl From<ChartFault> for Fault {
-    fn from(fault: ChartFault) -> Fault {
-        match fault {
-            ChartFault::Nothing => Fault::Nothing,
-            ChartFault::Write => Fault::WriteFault,
-            ChartFault::NoMemory => Fault::NoMemory,
-        }
-    }
-}
-
 impl From<SizesFault> for Fault {
     fn from(fault: SizesFault) -> Fault {
         match fault {
             SizesFault::NoMemory => Fault::NoMemory,
             fault => Fault::BadSizes(fault),
-        }
-    }
-}
-
-impl From<PlaceFault> for Fault {
-    fn from(fault: PlaceFault) -> Fault {
-        match fault {
-            PlaceFault::NoMemory => Fault::NoMemory,
-            PlaceFault::NoHost(fault) => Fault::from(fault),
         }
     }
 }

@@ -1,4 +1,4 @@
-//! What the commands of `tableau-tools` share: the plans, runs, hosts and traces that they read, standard output, and why a
+//! What the commands of `tableau-tools` share: the plans, runs and hosts that they read, standard output, and why a
 //! command doesn't end well.
 //!
 //! A text that isn't what a command wants is a `Fault`, whose words are the line on standard error.
@@ -11,7 +11,6 @@ mod output;
 mod plan;
 mod planned;
 mod quote;
-mod trace;
 mod unkept;
 
 pub use fault::Fault;
@@ -21,5 +20,4 @@ pub use output::{finish, output_of};
 pub use plan::{drawable, host_of, plan_of, view_in, view_of};
 pub use planned::{Planned, planned_in, planned_of, shown_of, tick_of};
 pub use quote::{ends_in_return, line_of, place_of, shown};
-pub use trace::trace_of;
 pub use unkept::Refusal;

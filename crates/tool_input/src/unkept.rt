@@ -6,7 +6,7 @@ use view_doc::View;
 use view_schedulers::Unkept;
 
 /// Why the vCPUs of a plan aren't put on a scheduler, with the name of the vCPU, if it is one's.
-#[derive(Debug, Drop)]
+#[derive(Drop)]
 pub struct Refusal {
     fault: Unkept,
     name: String,

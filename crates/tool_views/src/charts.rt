@@ -1,17 +1,17 @@
 ghost use Rattle.std.specs.Prelude.{◌<◌, ◌≤◌, ◌^◌, IfOk, length};
 ghost use Rattle.tab_core.specs.declared.TheConstants.{MAX_CORES, MAX_VCPUS};
 
+use crate::traces::trace_of;
 use std::alloc::Global;
 use tab_core::{MAX_TICK_NS, MAX_VCPUS, Name, TICK_NS, Vcpu, VcpuNo};
 use tab_words::cut_sections;
 use tool_input::{
-    Fault, Input, drawable, finish, host_of, input_of, output_of, plan_of, tick_of, trace_of,
-    view_of,
+    Fault, Input, drawable, finish, host_of, input_of, output_of, plan_of, tick_of, view_of,
 };
 use vcpu_names::Names;
 use view_chart::{write_chart, write_trace_chart};
 use view_doc::View;
-use view_lanes::{ChartOptions, cores_in};
+use view_lanes::{ChartFault, ChartOptions, cores_in};
 use view_table::figures_of;
 use view_text::{TextOptions, write_text_chart, write_trace_text};
 use view_trace::is_host_trace;
@@ -55,10 +55,11 @@ fn put_text(rt: &HostRuntime, words: &ChartWords<'_>) -> Result<(), Fault> {
     has_lane(words, options.first, &drawn.view)?;
     options.tick_ns = drawn.tick_ns;
     let mut sink = output_of(rt)?;
-    match drawn.end {
-        Some(end) => write_trace_text(rt.alloc(), &mut sink, &drawn.view, end, &options)?,
-        None => write_text_chart(rt.alloc(), &mut sink, &drawn.view, &options)?,
-    }
+    let put = match drawn.end {
+        Some(end) => write_trace_text(rt.alloc(), &mut sink, &drawn.view, end, &options),
+        None => write_text_chart(rt.alloc(), &mut sink, &drawn.view, &options),
+    };
+    put.map_err(undrawn)?;
     finish(&mut sink)
 }
 
@@ -70,15 +71,8 @@ fn put_picture(rt: &HostRuntime, words: &ChartWords<'_>) -> Result<(), Fault> {
     options.tick_ns = drawn.tick_ns;
     let figures = figures_of(rt.alloc(), &drawn.view)?;
     let mut sink = output_of(rt)?;
-    match drawn.end {
-        Some(end) => write_trace_chart(
-            rt.alloc(),
-            &mut sink,
-            &drawn.view,
-            &figures,
-            end,
-            &options,
-        )?,
+    let put = match drawn.end {
+        Some(end) => write_trace_chart(rt.alloc(), &mut sink, &drawn.view, &figures, end, &options),
         None => write_chart(
             rt.alloc(),
             &mut sink,
@@ -86,9 +80,19 @@ fn put_picture(rt: &HostRuntime, words: &ChartWords<'_>) -> Result<(), Fault> {
             &figures,
             &drawn.promises,
             &options,
-        )?,
-    }
+        ),
+    };
+    put.map_err(undrawn)?;
     finish(&mut sink)
+}
+
+/// Why a view isn't drawn, as a command's fault.
+pub(crate) fn undrawn(fault: ChartFault) -> Fault {
+    match fault {
+        ChartFault::Nothing => Fault::Nothing,
+        ChartFault::Write => Fault::WriteFault,
+        ChartFault::NoMemory => Fault::NoMemory,
+    }
 }
 
 // What is drawn: a plan, a run or a host's trace, the waits that its host promises, if it has one, nanoseconds of a tick,

@@ -13,6 +13,7 @@ mod form;
 mod ran;
 mod reports;
 mod tables;
+mod traces;
 
 pub use charts::{ChartWords, chart};
 pub use diffs::{DiffWords, diff};

@@ -1,6 +1,7 @@
 ghost use Rattle.std.specs.Prelude.{◌<◌, ◌≤◌, ◌^◌, length};
 ghost use Rattle.tab_core.specs.declared.TheConstants.{MAX_CORES, MAX_VCPUS};
 
+use crate::charts::undrawn;
 use crate::diffs::{differences_of, shared_tick};
 use tab_core::{Host, MAX_TICK_NS};
 use tab_io::MemSink;
@@ -86,6 +87,7 @@ fn put_page(
         tick_ns,
         script,
         differences,
-    )?;
+    )
+    .map_err(undrawn)?;
     finish(&mut sink)
 }

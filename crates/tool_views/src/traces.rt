@@ -1,11 +1,11 @@
-use crate::fault::Fault;
-use crate::input::Input;
-use crate::quote::{ends_in_return, line_of, shown};
+//! The trace of another host.
+
 use std::alloc::Global;
+use tool_input::{Fault, Input, ends_in_return, line_of, shown};
 use view_trace::{HostTrace, LineCause, TraceFault, read_trace};
 
 /// A host's trace, as it is drawn.
-pub fn trace_of(alloc: Global, input: Input) -> Result<HostTrace, Fault> {
+pub(crate) fn trace_of(alloc: Global, input: Input) -> Result<HostTrace, Fault> {
     match read_trace(alloc, &input.bytes) {
         Ok(trace) => Ok(trace),
         Err(fault) => Err(fault_of(alloc, input, fault)),
