@@ -15,14 +15,14 @@ use Rattle.script_doc.specs.declared.event.Event.{Event}
 use Rattle.plan_promises.specs.Histories.{IsHistory}
 use Rattle.plan_promises.specs.Runs.{AreTasksSold, SharesKept, WaitsWithinLatency}
 
--- Every core runs to the end of so many rounds, in stints of a tick or more that follow one another in time. Each
--- round was entered with a count of first events, which never falls and is fresh at the round's begin. At each tick all cores use the plan of
--- the count of the tick's round. No vCPU runs on two cores at one tick. Each vCPU that is reserved in a round's host is
--- offered its share there, nobody else has a task, and each wait between offers is within the greater of the vCPU's
--- latencies at its two ends. Each stint goes by a seen count of events, which never falls along a core's stints and is
--- fresh as the stint begins. After these events whoever runs is runnable, and a slot's owner who is runnable runs in
--- it. No core idles while a runnable vCPU is eligible on it. A capped vCPU with a task runs at no more ticks of a
--- period, counted from the round's begin, than the task's cost
+-- Every core runs to the end of so many rounds, in stints of a tick or more that follow one another in time. Each round
+-- was entered with a count of first events, which never falls and is fresh at the round's begin. At each tick all cores
+-- use the plan of the count of the tick's round. No vCPU runs on two cores at one tick. Each vCPU that is reserved in a
+-- round's host is offered its share there, nobody else has a task, and each wait between offers is within the greater
+-- of the vCPU's latencies at its two ends. Each stint goes by a seen count of events, which never falls along a core's
+-- stints and is fresh as the stint begins. After these events whoever runs is runnable, and a slot's owner who is
+-- runnable runs in it. No core idles while a runnable vCPU is eligible on it. A capped vCPU with a task runs at no more
+-- ticks of a period, counted from the round's begin, than the task's cost
 pub record RunPromises (rounds : ℕ) (hosts : ℕ → Host) (tick_ns : ℕ) (course : CourseView) (s : State) : Type 0 where
   pub whole : (c : ℕ) (core : CoreState) → IsCore s c core → core.clock ≡ rounds * ROUND
   pub in_time : (c : ℕ) (core : CoreState) → IsCore s c core → AreContiguous 0 core.stints core.clock

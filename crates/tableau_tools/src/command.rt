@@ -1,6 +1,6 @@
 //! The words of the program, in tables: a row for each word of a command, and one for each command.
 //!
-//! One loop gives them to clap. A call of clap's builders in the program's text costs the prover more than a row.
+//! Two loops give them to clap. A call of clap's builders in the program's text costs the prover more than a row.
 
 use clap::builder::ValueParser;
 use clap::{Arg, ArgAction, Command};
