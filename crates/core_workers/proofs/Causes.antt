@@ -1,5 +1,5 @@
 -- What a step brings, by what its actor keeps.
-use Rattle.std.proofs.Common.{◌≡◌, ℕ, ◌*◌, ◌<◌, true, List, length, inl, inr, refl, sym, ap, ◌∙◌, subst, arith}
+use Rattle.std.proofs.Common.{◌≡◌, ℕ, zero, suc, ◌*◌, ◌<◌, true, List, length, inl, inr, refl, sym, ap, ◌∙◌, subst, arith}
 use mathlib.Core.Logic.{dite}
 use native.Mathlib.Decide.{ℕ_discrete}
 use Rattle.tab_core.specs.declared.TheConstants.{ROUND}
@@ -18,7 +18,7 @@ use Rattle.run_promises.proofs.ChoiceLemmas.{stint_bounds}
 use Rattle.dispatch_core.specs.declared.answer.CoreAnswer.{CoreAnswer}
 use Rattle.dispatch_core.specs.declared.answer.CoreAnswer.TheVariants.{Ran, Behind, Finished}
 use Rattle.dispatch_core.specs.States.{AgreesWith, IsSameCore, StateView}
-use Rattle.dispatch_core.specs.Told.{ComesNext, ComesToEnter, CoreGoes, CoreTold, FindsLow, HearsLow, LacksEvent, RunsSome}
+use Rattle.dispatch_core.specs.Told.{ComesNext, ComesToEnter, CoreGoes, CoreTold, FindsLow, HearsLow, LacksEvent, MakesSteps, RunsSome}
 use Rattle.dispatch_core.proofs.PartLemmas.{entered_same}
 use Rattle.dispatch_core.proofs.StintLemmas.{begins_same}
 use Rattle.plan_switch.specs.Controllers as controllers
@@ -27,7 +27,7 @@ use Rattle.plan_switch.specs.declared.answer.ControlAnswer.{ControlAnswer}
 use Rattle.plan_switch.specs.declared.answer.ControlAnswer.TheVariants as control
 use Rattle.plan_switch.specs.Told.{ControlTold}
 use Rattle.crew_turns.specs.Going.{GoesOnTo, IsQuiet, PartsGoOn}
-use Rattle.crew_turns.proofs.GoingLemmas.{actors_none, actors_step, on_more, on_none, parts_changed}
+use Rattle.crew_turns.proofs.GoingLemmas.{actors_none, actors_step, on_more, on_none, parts_changed, parts_more, parts_none}
 use Rattle.core_workers.specs.Crews.{HasFinished}
 use Rattle.core_workers.specs.Waiting.{CoreWaits, LeadWaits}
 use Rattle.core_workers.proofs.PartsLemmas.{on_cores, on_entered, on_hears, on_posts, on_sees}
@@ -135,6 +135,12 @@ module _ (o : OutlineView) (c : ℕ) (v w : View) (changes : ChangesOnly v w c) 
 
   pub goes_parts : (rounds : ℕ) (answer : CoreAnswer) → CoreGoes o rounds c v answer w → PartsGoOn v w
   goes_parts rounds answer goes = parts_changed v w c changes (goes_on rounds answer goes)
+
+-- some steps of a core, in all that needs no plan
+pub steps_parts : (o : OutlineView) (rounds c n : ℕ) (v w : View) → MakesSteps o rounds c n v w → PartsGoOn v w
+steps_parts o rounds c zero v w is = subst (PartsGoOn v) (sym is) (parts_none v)
+steps_parts o rounds c (suc n) v w made = parts_more v made.0 w (steps_parts o rounds c n v made.0 made.2)
+    (goes_parts o c made.0 w made.3 rounds made.1 made.4)
 
 -- what a step did by a course, in all that needs no plan
 pub told_goes : (course : CourseView) (rounds c : ℕ) (v w : View) (answer : CoreAnswer) → IsCourse course → CoreTold course rounds c v answer w

@@ -3,8 +3,8 @@ ghost use Rattle.table_form.specs.Running.Courses.{FitsRounds};
 ghost use Rattle.slice_table.specs.Owners.{AreCourseOwners};
 ghost use Rattle.core_workers.specs.Inside.Making.{IsNewActor};
 
-use crew_turns::{CoreStepper, Stepper, Turn};
-use dispatch_core::{CoreAnswer, CoreState, step_state};
+use crew_turns::{CoreStepper, Pass, Stepper, Turn};
+use dispatch_core::{CoreAnswer, CoreState, Way, run_on, step_state};
 use round_words::{RoundBoard, RoundSeat};
 use slice_table::{CoreSlices, RowOwners};
 use std::alloc::Global;
@@ -93,6 +93,36 @@ impl<'a> Stepper for Member<'a> {
             CoreAnswer::Behind { who: _, tick } => Turn::Waits { tick },
             CoreAnswer::Finished => Turn::Ended,
         }
+    }
+
+    // By the plan of the round that it entered last.
+    #[inline(always)]
+    fn run_on<P: Pass>(
+        &mut self,
+        board: &RoundBoard,
+        seat: &mut RoundSeat,
+        passing: &mut P,
+        limit: u32,
+    ) {
+        // before a table is looked up, since most turns of long stints are over here
+        if self.state.clock() > limit {
+            return;
+        }
+        let outline = self.course.outline();
+        let Some(used) = self.state.last_used() else {
+            return;
+        };
+        // no round uses more events than there are, but no contract says so here
+        if used > outline.count() {
+            return;
+        }
+        let table = self.slices.table_after(self.course, used);
+        let way = Way {
+            outline,
+            used,
+            table,
+        };
+        run_on(board, seat, passing, limit, &way, &mut self.state);
     }
 }
 

@@ -1,6 +1,6 @@
 -- The actors of a run: the cores of the lowest numbers, by number, and the controller.
 -- Source: the rules of this project.
-use Rattle.std.specs.Prelude.{◌≡◌, ◌⊎◌, ℕ, ◌<◌, ◌≤◌, true, List, Some, length, slice_get}
+use Rattle.std.specs.Prelude.{◌≡◌, ◌⊎◌, ℕ, ◌≤◌, true, List, Some, length, slice_get}
 use Rattle.round_words.specs.declared.view.View.{View}
 use Rattle.round_words.specs.Views.{controller, holds}
 use Rattle.crew_turns.specs.Kinds.{Kind}

@@ -15,3 +15,26 @@ pub struct FreeGate;
 impl Gate for FreeGate {
     fn pass(&self, _actor: u32, _step: u64) {}
 }
+
+/// Is called by an actor before each of its steps. It promises nothing.
+pub trait Pass {
+    /// Is called with how far the actor is: a core's clock, in ticks, or how many events the controller has posted.
+    fn pass(&mut self, place: u32);
+}
+
+// An actor's way through the gate: the actor's number, and how many steps it has made.
+#[derive(Drop)]
+pub(crate) struct Passage<'a, G: Gate> {
+    pub(crate) gate: &'a G,
+    pub(crate) actor: u32,
+    pub(crate) steps: u64,
+}
+
+impl<G: Gate> Pass for Passage<'_, G> {
+    #[inline(always)]
+    fn pass(&mut self, place: u32) {
+        self.gate.pass(self.actor, self.steps);
+        self.gate.reached(self.actor, self.steps, place);
+        self.steps = self.steps.wrapping_add(1);
+    }
+}

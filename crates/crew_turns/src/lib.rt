@@ -20,7 +20,7 @@ mod working;
 pub use beside::work_beside;
 pub use clocks::{Least, OUT, find_least};
 pub use driving::{Rest, drive_all};
-pub use gate::{FreeGate, Gate};
+pub use gate::{FreeGate, Gate, Pass};
 pub use guess::Guess;
 pub use patience::{PATIENCE, Patience};
 pub use player::Player;

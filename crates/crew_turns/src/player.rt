@@ -4,7 +4,7 @@ ghost use Rattle.round_words.specs.Seats.{view_of, IsSeatOf};
 ghost use Rattle.crew_turns.specs.Going.{PartsGoOn};
 ghost use Rattle.crew_turns.specs.Kinds.{Stepped};
 
-use crate::gate::Gate;
+use crate::gate::{Gate, Pass, Passage};
 use crate::stepper::{Site, Stepper, Turn};
 use round_words::RoundSeat;
 
@@ -24,12 +24,13 @@ impl<A: Drop> Player<A> {
     }
 }
 
-// A step of the player, before which it passes the gate.
+// A step of the player, before which it passes the gate, and further ones of its own while it is at the limit at most.
 #[inline(always)]
 pub(crate) fn step_player<A: Stepper + Drop, G: Gate>(
     site: &Site<'_, G>,
     seat: &mut RoundSeat,
     player: &mut Player<A>,
+    limit: u32,
 ) -> Turn
     requires board { IsSeatOf site.now.board.now seat.old }
     requires agrees { A.kind.agrees player.old.actor (view_of seat.old) }
@@ -40,10 +41,16 @@ pub(crate) fn step_player<A: Stepper + Drop, G: Gate>(
     ensures parts { PartsGoOn (view_of seat.old) (view_of seat.new) }
     ensures told { Stepped A.kind player.old.actor (view_of seat.old) result player.new.actor (view_of seat.new) }
 {
-    let number = player.actor.number();
-    site.gate.pass(number, player.steps);
-    site.gate
-        .reached(number, player.steps, player.actor.place());
-    player.steps = player.steps.wrapping_add(1);
-    player.actor.step(site.board, seat)
+    let mut passage = Passage {
+        gate: site.gate,
+        actor: player.actor.number(),
+        steps: player.steps,
+    };
+    passage.pass(player.actor.place());
+    let turn = player.actor.step(site.board, seat);
+    if turn == Turn::Moved {
+        player.actor.run_on(site.board, seat, &mut passage, limit);
+    }
+    player.steps = passage.steps;
+    turn
 }

@@ -37,7 +37,7 @@ pub(crate) fn run_player<C: CoreStepper + Drop, G: Gate>(
 {
     let mut clock = player.actor.place();
     'running: while clock <= limit {
-        let turn = step_player(site, seat, player);
+        let turn = step_player(site, seat, player, limit);
         match turn {
             Turn::Moved => clock = player.actor.place(),
             Turn::Waits { tick: _ } | Turn::Stopped => return Reached { clock, turn },

@@ -6,7 +6,7 @@ ghost use Rattle.crew_turns.specs.declared.clocks.TheConstants.{OUT as THE_OUT};
 ghost use Rattle.crew_turns.specs.Going.{PartsGoOn};
 ghost use Rattle.crew_turns.specs.Kinds.{IsLawful, Kind, Stepped};
 
-use crate::gate::Gate;
+use crate::gate::{Gate, Pass};
 use round_words::{RoundBoard, RoundSeat};
 
 /// What came of an actor's step.
@@ -48,6 +48,28 @@ pub trait Stepper {
         ensures changes { ChangesOnly (view_of seat.old) (view_of seat.new) (kind.number self.old) }
         ensures parts { PartsGoOn (view_of seat.old) (view_of seat.new) }
         ensures told { Stepped kind self.old (view_of seat.old) result self.new (view_of seat.new) };
+
+    /// Further steps, after one in which it got on. Each is made while it is at this place at most, and after a pass as `step`
+    /// is. None is owed, and none is made unless an actor says otherwise.
+    #[inline(always)]
+    fn run_on<P: Pass>(
+        &mut self,
+        board: &RoundBoard,
+        seat: &mut RoundSeat,
+        passing: &mut P,
+        limit: u32,
+    )
+        requires board { IsSeatOf board.now seat.old }
+        requires agrees { kind.agrees self.old (view_of seat.old) }
+        ensures board { IsSeatOf board.now seat.new }
+        ensures agrees { kind.agrees self.new (view_of seat.new) }
+        ensures same { kind.same self.old self.new }
+        ensures changes { ChangesOnly (view_of seat.old) (view_of seat.new) (kind.number self.old) }
+        ensures parts { PartsGoOn (view_of seat.old) (view_of seat.new) }
+        ensures place { kind.place self.old ≤ kind.place self.new }
+    {
+        let _ = limit;
+    }
 }
 
 /// A core that steps by a seat: its place is its clock.

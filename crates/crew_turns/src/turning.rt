@@ -72,7 +72,7 @@ pub(crate) fn turn<C: CoreStepper + Drop, L: Stepper + Drop, G: Gate>(
         return Progress::Moved;
     }
     roster.turns = 0;
-    match step_player(site, seat, lead) {
+    match step_player(site, seat, lead, 0) {
         Turn::Moved => Progress::Moved,
         Turn::Waits { tick } => {
             roster.awaits = tick;

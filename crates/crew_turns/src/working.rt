@@ -2,6 +2,7 @@ ghost use Rattle.std.specs.Prelude.{◌≡◌};
 ghost use Rattle.round_words.specs.Seats.{view_of, IsSeatOf};
 ghost use Rattle.crew_turns.specs.Going.{SameActors};
 
+use crate::clocks::OUT;
 use crate::gate::Gate;
 use crate::patience::Patience;
 use crate::player::{Player, step_player};
@@ -28,7 +29,7 @@ pub(crate) fn work<A: Stepper + Drop, G: Gate>(
     let mut sights = patience.sights();
     let mut awaits = 0;
     'working: while left > 0 {
-        match step_player(site, &mut seat, &mut player) {
+        match step_player(site, &mut seat, &mut player, OUT) {
             Turn::Moved => left = turns,
             Turn::Waits { tick } => {
                 if tick != awaits && sights > 0 {

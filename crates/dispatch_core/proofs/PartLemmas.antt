@@ -8,7 +8,7 @@ use Rattle.tab_core.specs.declared.entry.Entry.{Entry}
 use Rattle.tab_core.specs.declared.stint.Stint.{Stint}
 use Rattle.table_form.specs.Running.Outlines.{OutlineView}
 use Rattle.round_words.specs.declared.view.Part.{Part}
-use Rattle.round_words.specs.Views.{last_of, with_entry, with_stint}
+use Rattle.round_words.specs.Views.{last_of, with_stint}
 use Rattle.round_words.proofs.ListLemmas.{at_get}
 use Rattle.dispatch_core.specs.Parts.{HasEvents, HasSeen, IsTimely}
 use Rattle.dispatch_core.specs.Told.{BeginsNext, ComesToEnter, MakesEntry}

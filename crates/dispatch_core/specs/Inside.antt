@@ -3,3 +3,4 @@ pub mod Adding
 pub mod Ending
 pub mod Finishing
 pub mod Logs
+pub mod Running

@@ -1,6 +1,6 @@
 -- What a core's step does to the view, for each of its answers.
 -- Source: the rules of this project.
-use Rattle.std.specs.Prelude.{◌≡◌, ◌≢◌, ◌⊎◌, ℕ, ◌+◌, ◌*◌, ◌/◌, ◌<◌, ◌≤◌, true, length, Some, slice_get, slice_index}
+use Rattle.std.specs.Prelude.{◌≡◌, ◌≢◌, ◌⊎◌, ℕ, zero, suc, ◌+◌, ◌*◌, ◌/◌, ◌<◌, ◌≤◌, true, length, Some, slice_get, slice_index}
 use Rattle.tab_core.specs.declared.TheConstants.{ROUND}
 use Rattle.tab_core.specs.declared.entry.Entry.{Entry}
 use Rattle.tab_core.specs.declared.stint.Stint.{Stint}
@@ -11,6 +11,7 @@ use Rattle.table_form.specs.Running.Outlines.{OutlineView}
 use Rattle.round_words.specs.declared.view.Part.{Part}
 use Rattle.round_words.specs.declared.view.View.{View}
 use Rattle.round_words.specs.Views.{holds, part, sees, hears, with_entry, with_stint, last_of}
+use Rattle.round_words.specs.Changes.{ChangesOnly}
 use Rattle.round_words.specs.Hearing.{HearsCores}
 use Rattle.round_words.specs.Shown.{IsSight}
 use Rattle.dispatch_core.specs.declared.answer.Begun.{Begun}
@@ -158,3 +159,27 @@ CoreGoes o rounds c v (Behind Controller tick) w = ((part v c).clock < rounds * 
 CoreGoes o rounds c v (Behind (Core d) tick) w = (count : ℕ) × (entered : Part) × BeginsStep o rounds c v count entered
     × HearsLow o c entered (part w c) d tick × (holds v d ≡ true → tick ≡ (part v d).clock)
 CoreGoes o rounds c v Finished w = ((part v c).clock ≡ rounds * ROUND) × (w ≡ v)
+
+-- so many steps of core c, one after another, in all that needs no plan
+abbrev pub MakesSteps : OutlineView → ℕ → ℕ → ℕ → View → View → Type 0
+MakesSteps o rounds c zero v w = w ≡ v
+MakesSteps o rounds c (suc n) v w = (u : View) × (answer : CoreAnswer) × MakesSteps o rounds c n v u × ChangesOnly u w c
+    × CoreGoes o rounds c u answer w
+
+-- the step is one in which the core waits
+abbrev pub IsWait : CoreAnswer → Type 0
+IsWait (Ran s) = ⊥
+IsWait (Behind who tick) = Unit {0}
+IsWait Finished = ⊥
+
+-- the last of so many steps is one in which the core waits
+abbrev pub WaitsAtLast : (o : OutlineView) (rounds c count : ℕ) (v w : View) → MakesSteps o rounds c count v w → Type 0
+WaitsAtLast o rounds c zero v w made = ⊥
+WaitsAtLast o rounds c (suc n) v w made = IsWait made.1
+
+-- Core c made some steps, in all that needs no plan, by which its clock came to this tick. It went on until it waited, or the
+-- tick was above the limit, or at the end
+pub record RunsTo (o : OutlineView) (rounds c limit end : ℕ) (v w : View) (clock : ℕ) : Type 0 where
+  pub count : ℕ
+  pub steps : MakesSteps o rounds c count v w
+  pub stops : (limit < clock) ⊎ (end ≤ clock) ⊎ WaitsAtLast o rounds c count v w steps

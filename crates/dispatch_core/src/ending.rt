@@ -6,6 +6,7 @@ ghost use Rattle.round_words.specs.Changes.{ChangesOnly};
 ghost use Rattle.round_words.specs.Seats.{view_of, IsSeatOf};
 ghost use Rattle.round_words.specs.Views.{part, with_stint};
 ghost use Rattle.dispatch_core.specs.Inside.Ending.{BySpan, ByTable, EndsStep, IsToEnd};
+ghost use Rattle.dispatch_core.specs.Inside.Running.{EndsInside};
 ghost use Rattle.dispatch_core.specs.Told.{BeginsNext};
 
 use crate::answer::Ended;
@@ -137,7 +138,7 @@ fn place_behind(place: u32, stint: &Stint, end: u32) -> u32 {
 
 // The core hears the others and runs its next stint, at this span, if no clock of theirs is too low.
 #[inline(always)]
-fn run_at(
+pub(crate) fn run_at(
     board: &RoundBoard,
     seat: &mut RoundSeat,
     log: &mut CoreLog,
@@ -149,7 +150,8 @@ fn run_at(
     requires due { IsToEnd board.now due.now seat.old log.old }
     requires after { log.old.clock % ROUND < span.now.end }
     requires within { span.now.end ≤ ROUND }
-    ensures { EndsStep board.now due.now (BySpan span.now log.old) seat.old log.old result seat.new log.new }
+    ensures ends { EndsStep board.now due.now (BySpan span.now log.old) seat.old log.old result seat.new log.new }
+    ensures inside { EndsInside (start + span.now.end) result }
 {
     let begin = Begin {
         from: log.clock,

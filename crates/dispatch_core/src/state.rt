@@ -1,4 +1,4 @@
-ghost use Rattle.std.specs.Prelude.{◌≡◌, ◌<◌, ◌≤◌, ℕ, IfOk, slice_index};
+ghost use Rattle.std.specs.Prelude.{◌≡◌, ◌-◌, ◌<◌, ◌≤◌, ℕ, IfOk, IfSome, Some, length, slice_get, slice_index};
 ghost use Rattle.tab_core.specs.declared.TheConstants.{MAX_CORES, MAX_ROUNDS, MAX_VCPUS};
 ghost use Rattle.table_form.specs.Running.Courses.{CourseView, outline_of};
 ghost use Rattle.round_words.specs.declared.view.View.{View as ViewValue};
@@ -84,6 +84,17 @@ impl CoreState {
         ensures { result.now ≡ self.now.used }
     {
         &self.log.used
+    }
+
+    /// The used count of the round that the core entered last, if it has entered one.
+    pub fn last_used(&self) -> Option<u32>
+        ensures { IfSome result (λ used. slice_get self.now.used (length self.now.used - 1) ≡ Some used) }
+    {
+        let rounds = self.log.used.len();
+        if rounds == 0 {
+            return None;
+        }
+        Some(self.log.used[rounds - 1])
     }
 
     /// The stints that are kept, which are the core's first ones.

@@ -8,8 +8,8 @@ use crate::answer::LiveAnswer;
 use crate::book::LiveBook;
 use crate::cell_shelf::CellShelf;
 use crate::kept::Kept;
-use crate::stepping::step_keeping;
-use crew_turns::{CoreStepper, Stepper, Turn};
+use crate::stepping::{run_further, step_keeping};
+use crew_turns::{CoreStepper, Pass, Stepper, Turn};
 use round_words::{RoundBoard, RoundSeat};
 use slice_table::RowOwners;
 use std::alloc::Global;
@@ -119,6 +119,26 @@ impl<'a> Stepper for Member<'a> {
             LiveAnswer::Stopped { change: _ } => Turn::Stopped,
             LiveAnswer::Finished => Turn::Ended,
         }
+    }
+
+    // By what its steps found last.
+    #[inline(always)]
+    fn run_on<P: Pass>(
+        &mut self,
+        board: &RoundBoard,
+        seat: &mut RoundSeat,
+        passing: &mut P,
+        limit: u32,
+    ) {
+        run_further(
+            board,
+            seat,
+            passing,
+            limit,
+            &mut self.actor,
+            self.book,
+            &self.kept,
+        );
     }
 }
 

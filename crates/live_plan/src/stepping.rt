@@ -1,7 +1,8 @@
-ghost use Rattle.std.specs.Prelude.{◌≤◌, length};
+ghost use Rattle.std.specs.Prelude.{◌≡◌, ◌-◌, ◌≤◌, ℕ, Some, length, slice_get};
 ghost use Rattle.round_words.specs.Changes.{ChangesOnly};
 ghost use Rattle.round_words.specs.Seats.{view_of, IsSeatOf};
 ghost use Rattle.dispatch_core.specs.States.{HasBegun, IsSameCore};
+ghost use Rattle.dispatch_core.specs.Told.{MakesSteps};
 ghost use Rattle.live_plan.specs.Actors.{IsLiveActorOf, LiveAgrees};
 ghost use Rattle.live_plan.specs.Books.{changes_before};
 ghost use Rattle.live_plan.specs.Inside.Finishing.{LiveFinishTold, WaitTold};
@@ -16,7 +17,8 @@ use crate::book::LiveBook;
 use crate::kept::{Kept, keep};
 use crate::seeking::Unmade;
 use crate::shelf::Shelf;
-use dispatch_core::{Begun, CoreState, Ended, begin_step, end_step};
+use crew_turns::Pass;
+use dispatch_core::{Begun, CoreState, Ended, Way, begin_step, end_step, run_on};
 use round_words::{RoundBoard, RoundSeat};
 use slice_table::SliceTable;
 use tab_core::Actor;
@@ -163,6 +165,77 @@ fn run<'a, H: Shelf<'a>>(
         Ended::Ran(stint) => LiveAnswer::Ran(stint),
         Ended::Behind { core, tick } => wait(book, shelf, seen, Actor::Core(core), tick),
     }
+}
+
+// Further steps of a live core, by what its steps found last, where its round uses that.
+#[inline(always)]
+pub(crate) fn run_further<P: Pass>(
+    board: &RoundBoard,
+    seat: &mut RoundSeat,
+    passing: &mut P,
+    limit: u32,
+    actor: &mut LiveActor,
+    book: &LiveBook,
+    kept: &Kept<'_>,
+)
+    requires board { IsSeatOf board.now seat.old }
+    requires actor { IsLiveActorOf book.now actor.old }
+    requires agrees { LiveAgrees book.now actor.old.state (view_of seat.old) }
+    requires kept { IsTableKept book.now actor.old.state.core kept.now }
+    ensures board { IsSeatOf board.now seat.new }
+    ensures actor { IsLiveActorOf book.now actor.new }
+    ensures agrees { LiveAgrees book.now actor.new.state (view_of seat.new) }
+    ensures same { IsSameCore actor.old.state actor.new.state }
+    ensures changes { ChangesOnly (view_of seat.old) (view_of seat.new) actor.old.state.core }
+    ensures told { (count : ℕ) × MakesSteps book.now.outline actor.old.state.rounds actor.old.state.core count
+        (view_of seat.old) (view_of seat.new) }
+{
+    // before a table is looked up, since most turns of long stints are over here
+    if actor.state.clock() > limit {
+        return;
+    }
+    let outline = book.outline();
+    let Some(used) = actor.state.last_used() else {
+        return;
+    };
+    // no round uses more events than there are, but no contract says so here
+    if used != kept.used || used > outline.count() {
+        return;
+    }
+    let way = Way {
+        outline,
+        used,
+        table: kept.table_or(&actor.table),
+    };
+    run_by(board, seat, passing, limit, &way, book, &mut actor.state);
+}
+
+// Further steps by this slice table, which is the core's of the plan that its round uses. `book` is for the proof alone.
+#[inline(always)]
+fn run_by<P: Pass>(
+    board: &RoundBoard,
+    seat: &mut RoundSeat,
+    passing: &mut P,
+    limit: u32,
+    way: &Way<'_>,
+    book: &LiveBook,
+    state: &mut CoreState,
+)
+    requires board { IsSeatOf board.now seat.old }
+    requires agrees { LiveAgrees book.now state.old (view_of seat.old) }
+    requires outline { way.now.outline.now ≡ book.now.outline }
+    requires used { slice_get state.old.used (length state.old.used - 1) ≡ Some way.now.used }
+    requires within { way.now.used ≤ length book.now.outline.ticks }
+    requires table { IsSliceAt book.now (changes_before book.now way.now.used) state.old.core way.now.table.now }
+    ensures board { IsSeatOf board.now seat.new }
+    ensures agrees { LiveAgrees book.now state.new (view_of seat.new) }
+    ensures same { IsSameCore state.old state.new }
+    ensures changes { ChangesOnly (view_of seat.old) (view_of seat.new) state.old.core }
+    ensures told { (count : ℕ) × MakesSteps book.now.outline state.old.rounds state.old.core count (view_of seat.old)
+        (view_of seat.new) }
+{
+    let _ = book;
+    run_on(board, seat, passing, limit, way, state);
 }
 
 // The core waits for this actor, unless memory ran out for the first change beyond what it saw.

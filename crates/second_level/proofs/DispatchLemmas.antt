@@ -33,9 +33,10 @@ follows_by course c earlier s plan span_end is choice span end = record {
   end = end ∙ ap (stint_end course s.from span_end) (sym (shared_by course c s.from s.used s.ran plan is));
 }
 
--- a stint has a tick at least, and none beyond its round
+-- a stint has a tick at least, and none beyond its round or its span
 pub end_in_round : (b : Bool) (f e span lag quantum : ℕ)
     → e ≡ cond b (min (min (f - f % ROUND + span) (f + lag)) (f + quantum)) (min (f - f % ROUND + span) (f + lag))
-    → f % ROUND < span → span ≤ ROUND → 1 ≤ lag → 1 ≤ quantum → (f < e) × (e ≤ (f / ROUND + 1) * ROUND)
-end_in_round true f e span lag quantum is after within l q = (omega arith, omega arith)
-end_in_round false f e span lag quantum is after within l q = (omega arith, omega arith)
+    → f % ROUND < span → span ≤ ROUND → 1 ≤ lag → 1 ≤ quantum
+    → (f < e) × (e ≤ (f / ROUND + 1) * ROUND) × (e ≤ f - f % ROUND + span)
+end_in_round true f e span lag quantum is after within l q = (omega arith, omega arith, omega arith)
+end_in_round false f e span lag quantum is after within l q = (omega arith, omega arith, omega arith)

@@ -1,6 +1,6 @@
 -- Where a stint begins, and what is said of the one that comes next there.
 -- Source: the rules of this project; whom a stint runs and how long it is says `IsDispatch` of table_form.
-use Rattle.std.specs.Prelude.{◌≡◌, ℕ, ◌+◌, ◌*◌, ◌/◌, ◌%◌, ◌^◌, ◌<◌, ◌≤◌, List, length, if◌then◌else◌}
+use Rattle.std.specs.Prelude.{◌≡◌, ℕ, ◌+◌, ◌-◌, ◌*◌, ◌/◌, ◌%◌, ◌^◌, ◌<◌, ◌≤◌, List, length, if◌then◌else◌}
 use Rattle.tab_core.specs.declared.TheConstants.{ROUND}
 use Rattle.tab_core.specs.declared.stint.Stint.{Stint}
 use Rattle.table_form.specs.declared.span.Span.{Span}
@@ -35,6 +35,8 @@ pub record LeadsTo (o : OutlineView) (c : ℕ) (begin : Begin) (span : Span) (ne
   -- it has a tick at least, and none beyond its round
   pub some : next.stint.from < next.stint.end
   pub in_round : next.stint.end ≤ (next.stint.from / ROUND + 1) * ROUND
+  -- it ends with the span at the latest
+  pub in_span : next.stint.end ≤ next.stint.from - next.stint.from % ROUND + span.end
   -- in each course of the outline whose plan there shows the core this span, it is the one that the rules choose
   pub follows : (plan : PlanView) → ShowsSpan plan c begin span → InEachCourse o begin.used plan (λ (course : CourseView).
       (earlier : List Stint) → begin.last ≡ last_shared course c earlier → IsDispatch course c earlier next.stint)

@@ -21,6 +21,18 @@ one_more ends k tick are there ended in_round = elim (cases_lt (k + 1) (length e
       let end = are.last k last in omega arith)
 ]
 
+-- where the round isn't over at a span's end, the next span holds that tick
+pub held_after : (ends : List ℕ) (k tick : ℕ) → AreEnds ends → HoldsTick ends k tick → slice_index ends k < ROUND
+    → HoldsTick ends (k + 1) (slice_index ends k)
+held_after ends k tick are holds less =
+    let more = one_more ends k (slice_index ends k) are holds.there (omega arith) less in
+    let begin = next_begin ends k in
+    record {
+      there = more;
+      from = omega arith;
+      before = (let rise = are.rise (k + 1) more in omega arith);
+    }
+
 -- the shortest span has a tick
 pub shortest_some : (ticks : ℕ) (ends : List ℕ) → AreEnds ends → IsShortest ticks ends → 0 < ticks
 shortest_some ticks ends are shortest =

@@ -140,8 +140,9 @@ impl SliceTable {
         Some(self.numbered(number, tick))
     }
 
-    // The number of the span that holds the tick, sought at a guess and after it first.
-    fn number_near(&self, tick: u32, guess: usize) -> usize
+    /// The number of the span of the core's row that holds this tick of a round, below 102,600. It is sought at the guess and
+    /// after it first, and doesn't depend on it.
+    pub fn number_near(&self, tick: u32, guess: usize) -> usize
         requires tick { tick < ROUND }
         requires small { guess < 2 ^ 32 }
         ensures holds { HoldsTick (ends_of self.now) result tick }

@@ -101,11 +101,18 @@ impl SliceTable {
         self.numbered(number, tick)
     }
 
-    // The span of the number, which holds the tick. `tick` is for the proof alone.
-    pub(crate) fn numbered(&self, number: usize, tick: u32) -> Span<'_>
+    /// The span of this number, which holds this tick of a round: for a caller that goes from span to span. The span also
+    /// holds each later tick before its end, and the next one holds its end, where the round isn't over then.
+    ///
+    /// `tick` is for the proof alone.
+    #[inline(always)]
+    pub fn numbered(&self, number: usize, tick: u32) -> Span<'_>
         requires { HoldsTick (ends_of self.now) number tick }
         ensures after { tick < result.end }
         ensures within { result.end ≤ ROUND }
+        ensures small { number < ROUND }
+        ensures later { (t : ℕ) → tick ≤ t → t < result.end → HoldsTick (ends_of self.now) number t }
+        ensures next { result.end < ROUND → HoldsTick (ends_of self.now) (number + 1) result.end }
         ensures span { (plan : PlanView) (c : ℕ) → IsTableOf plan c self.now
             → IsSpan plan c tick result.owner result.sharers.now result.end }
     {

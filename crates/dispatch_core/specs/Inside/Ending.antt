@@ -1,5 +1,5 @@
 -- What the functions that end a step have in common: what holds before, and what the end answers.
-use Rattle.std.specs.Prelude.{ℕ, ◌%◌}
+use Rattle.std.specs.Prelude.{◌%◌}
 use Rattle.tab_core.specs.declared.TheConstants.{ROUND}
 use Rattle.table_form.specs.declared.span.Span.{Span}
 use Rattle.table_form.specs.Running.Courses.{CourseView, InEachCourse}

@@ -25,7 +25,7 @@ returns c =
     let span = c.span_near-span.result in
     let shown = λ (plan : PlanView) (of : ByTable due log plan).
     subst (λ (x : ℕ). IsSpan plan log.core x span.owner span.sharers.now span.end) place (c.span_near-span.ensures.span plan log.core of) in
-    let ends = c.run_at-ended.ensures in
+    let ends = c.run_at-ended.ensures.ends in
     record {
       board = ends.board;
       log = ends.log;

@@ -37,8 +37,8 @@ advance-requires-clause-begins c =
     (begins_next p c.next_stint_in-next.result.stint log.clock due.seen due.used log.used.items req.stands.used req.begun.entered
     req.stands.clock req.begun.sight.last n.from n.seen n.used)
 
-pub returns-in-Some : goal.returns-in-Some
-returns-in-Some c =
+pub returns-in-Some-clause-ends : goal.returns-in-Some-clause-ends
+returns-in-Some-clause-ends c =
     let log : CoreLog = c.args.log.now in
     let due : Due = c.args.due.now in
     let o : OutlineView = due.outline.now in
@@ -98,8 +98,8 @@ returns-in-Some c =
           plans_same _ (log_view log) _ p (part w log.core) refl refl refl same.stints follows;
     }
 
-pub returns-in-None : goal.returns-in-None
-returns-in-None c =
+pub returns-in-None-clause-ends : goal.returns-in-None-clause-ends
+returns-in-None-clause-ends c =
     let log : CoreLog = c.args.log.now in
     let due : Due = c.args.due.now in
     let o : OutlineView = due.outline.now in
@@ -156,3 +156,8 @@ returns-in-None c =
           (n.follows plan of plans numbers is q.stints heard.last) (n.shared plan of plans numbers is) t.same.0
           (t.last ∙ (sym n.picked ∙ n.last plan of plans numbers is)) t.account);
     }
+
+pub returns-in-None-clause-inside : goal.returns-in-None-clause-inside
+returns-in-None-clause-inside c =
+    let n = c.next_stint_in-next.ensures in
+    omega (arith, n.in_span, n.from, c.requires.start)

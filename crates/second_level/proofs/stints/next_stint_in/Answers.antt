@@ -22,6 +22,7 @@ returns c =
       used = search rules;
       some = ends.0;
       in_round = ends.1;
+      in_span = ends.2;
       follows = λ plan shown plans numbers is earlier known.
           let course : CourseView = with_plans c.args.outline.now plans numbers in
           let choice : IsChoice plan c.args.core (begin.from % ROUND) (runnable_after course begin.seen) begin.last ran =

@@ -1,0 +1,26 @@
+use Rattle.std.proofs.Common.{◌≡◌, ℕ, sym, ap, ◌∙◌, subst, arith}
+use Rattle.round_words.specs.declared.view.View.{View}
+use Rattle.round_words.specs.Seats.{view_of}
+use Rattle.round_words.specs.Views.{part}
+use Rattle.crew_turns.specs.Going.{PartsGoOn}
+use Rattle.dispatch_core.specs.States.{ActorView, actor_view}
+use Rattle.core_workers.specs.Actors.{CoreAgrees}
+use Rattle.core_workers.proofs.Causes.{steps_parts}
+use Rattle.core_workers.proofs.member.MemberStepper.run_on.Goals as goal
+
+pub returns-clause-parts : goal.returns-clause-parts
+returns-clause-parts g c =
+    let told = c.run_on.ensures.told in
+    steps_parts c.outline-outline.result.now c.self.inside.state.rounds c.self.inside.state.core told.count (view_of c.args.seat.now) (view_of c.run_on.new.seat) told.steps
+
+pub returns-clause-place : goal.returns-clause-place
+returns-clause-place g c =
+    let a : ActorView = actor_view c.self.inside.course.now c.self.inside.state in
+    let core : ℕ = a.state.core in
+    let v : View = view_of c.args.seat.now in
+    let w : View = view_of c.run_on.new.seat in
+    let agrees : CoreAgrees a v = subst (λ (x : ActorView). CoreAgrees x v) (sym c.self.view_is) c.requires.agrees in
+    let parts : PartsGoOn v w = returns-clause-parts g c in
+    let e = c.run_on.ensures in
+    let new : c.run_on.new.state.clock ≡ (part w core).clock = e.stands.clock ∙ ap (λ (k : ℕ). (part w k).clock) e.same.core in
+    omega (arith, ap (λ (x : ActorView). x.state.clock) c.self.view_is, agrees.agrees.stands.clock, new, (parts core).clock)
