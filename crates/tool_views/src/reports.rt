@@ -11,7 +11,7 @@ use tool_input::{
     planned_of, view_in,
 };
 use view_doc::View;
-use view_page::write_page;
+use view_page::{Page, write_page};
 use view_table::figures_of;
 
 /// Does `report`: it reads a host and its plan, or a host, a script and the trace of its run, and writes a page of HTML. A
@@ -77,17 +77,14 @@ fn put_page(
 {
     let figures = figures_of(rt.alloc(), view)?;
     let mut sink = output_of(rt)?;
-    let tick_ns = host.tick_ns.min(MAX_TICK_NS) as u16;
-    write_page(
-        rt.alloc(),
-        &mut sink,
-        Some(host.vcpus.items()),
+    let page = Page {
+        host: Some(host.vcpus.items()),
         view,
-        &figures,
-        tick_ns,
+        figures: &figures,
+        tick_ns: host.tick_ns.min(MAX_TICK_NS) as u16,
         script,
         differences,
-    )
-    .map_err(undrawn)?;
+    };
+    write_page(rt.alloc(), &mut sink, &page).map_err(undrawn)?;
     finish(&mut sink)
 }

@@ -81,16 +81,10 @@ stint_head = codes "\n],\"stints\":[\n[\"core\",\"from\",\"end\",\"vcpu\",\"how\
 abbrev pub json_table : {X : Type 0} → List ℕ → (X → List ℕ) → List X → List ℕ
 json_table first row xs = first ++ flat_map row xs
 
--- the text of these vCPUs, slots, entries and stints
-abbrev pub json_of : ℕ → ℕ → Bool → List (List ℕ) → List Task → List Stretch → List Entry → List Stretch
-    → List ℕ
-json_of tick cores is_run names tasks slots entries stints = json_begin tick cores (kind_text is_run)
-    ++ (texts_below (vcpu_row names tasks) (length names)
-    ++ (json_table slot_head (stretch_row names) slots
-    ++ (json_table entry_head entry_row entries
-    ++ (json_table stint_head (stretch_row names) stints ++ codes "\n]}\n"))))
-
 -- the text of a view
 abbrev pub json_text : ℕ → View → List ℕ
-json_text tick view = json_of tick view.cores view.is_run view.names.items view.tasks.items view.slots.items
-    view.entries.items view.stints.items
+json_text tick view = json_begin tick view.cores (kind_text view.is_run)
+    ++ (texts_below (vcpu_row view.names.items view.tasks.items) (length view.names.items)
+    ++ (json_table slot_head (stretch_row view.names.items) view.slots.items
+    ++ (json_table entry_head entry_row view.entries.items
+    ++ (json_table stint_head (stretch_row view.names.items) view.stints.items ++ codes "\n]}\n"))))

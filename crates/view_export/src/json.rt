@@ -2,7 +2,7 @@ ghost use Rattle.std.specs.Prelude.{◌≡◌, ◌<◌, ◌++◌, codes, flat_ma
 ghost use Rattle.tab_words.specs.Texts.{texts_below};
 ghost use Rattle.vcpu_names.specs.Names.{name_at as name_of};
 ghost use Rattle.tab_io.specs.Sinks.{Writes};
-ghost use Rattle.view_export.specs.Json.{bare_row, entry_head, entry_row, json_begin, json_of, json_table, json_text, kind_text, quoted_holder, row_begin, row_end, slot_head, stint_head, stretch_row, task_row, vcpu_row};
+ghost use Rattle.view_export.specs.Json.{bare_row, entry_head, entry_row, json_begin, json_table, json_text, kind_text, quoted_holder, row_begin, row_end, slot_head, stint_head, stretch_row, task_row, vcpu_row};
 
 use crate::shown::{how_text, name_at};
 use tab_core::{Name, VcpuNo};
@@ -20,39 +20,12 @@ use view_doc::{Entry, Stretch, Task, Use, View};
 pub fn write_json<K: Sink>(sink: &mut K, view: &View, tick_ns: u32) -> Result<(), WriteFault>
     ensures { Writes (K.state sink.old) (K.state sink.new) (json_text tick_ns view.now) result }
 {
-    put_json(
-        sink,
-        tick_ns,
-        view.cores,
-        view.is_run,
-        &view.names,
-        &view.tasks,
-        &view.slots,
-        &view.entries,
-        &view.stints,
-    )
-}
-
-// Writes the text of these vCPUs, slots, entries and stints.
-fn put_json<K: Sink>(
-    sink: &mut K,
-    tick_ns: u32,
-    cores: u32,
-    is_run: bool,
-    names: &[Name],
-    tasks: &[Task],
-    slots: &[Stretch],
-    entries: &[Entry],
-    stints: &[Stretch],
-) -> Result<(), WriteFault>
-    ensures { Writes (K.state sink.old) (K.state sink.new)
-        (json_of tick_ns cores is_run names.now tasks.now slots.now entries.now stints.now) result }
-{
-    put_begin(sink, tick_ns, cores, is_run)?;
-    put_vcpus(sink, names, tasks)?;
-    put_slot_table(sink, names, slots)?;
-    put_entry_table(sink, entries)?;
-    put_stint_table(sink, names, stints)?;
+    let names: &[Name] = &view.names;
+    put_begin(sink, tick_ns, view.cores, view.is_run)?;
+    put_vcpus(sink, names, &view.tasks)?;
+    put_slot_table(sink, names, &view.slots)?;
+    put_entry_table(sink, &view.entries)?;
+    put_stint_table(sink, names, &view.stints)?;
     write_all(sink, b"\n]}\n")
 }
 

@@ -1,6 +1,6 @@
 -- Parts of a page that are written one after the other.
 use Rattle.std.proofs.Common.{◌≡◌, ◌∙◌, ℕ, List, ◌++◌, Result, Ok, Err, ap, append_assoc, refl, subst, sym}
-use Rattle.tab_io.proofs.SinkLemmas.{all_left, left_behind, left_broken, left_last, writes_more, writes_nothing}
+use Rattle.tab_io.proofs.SinkLemmas.{all_left, left_behind, left_broken, left_last, writes_more}
 use Rattle.tab_io.specs.Sinks.{IsLeft, Writes}
 use Rattle.tab_io.specs.Views.{SinkView}
 use Rattle.tab_io.specs.declared.sink.WriteFault.{WriteFault}

@@ -1,7 +1,7 @@
 -- A view as one page of HTML, which loads nothing: what is shown, its tables, its pictures, the script of a run, and what
 -- differs from an older plan. Names are of letters, digits and three signs, so no name is markup.
 -- Source: HTML, WHATWG, Living Standard.
-use Rattle.std.specs.Prelude.{ℕ, ◌++◌, ◌==◌, ◌||◌, Bool, true, false, List, [], ◌∷◌, codes, decimal, if◌then◌else◌, length, not, Option, Some, None, slice_index}
+use Rattle.std.specs.Prelude.{ℕ, ◌++◌, ◌==◌, ◌||◌, Bool, true, false, List, [], ◌∷◌, codes, decimal, if◌then◌else◌, length, not, Option, Some, None, option_copied, slice_index}
 use Rattle.tab_core.specs.declared.vcpu.Vcpu.{Vcpu}
 use Rattle.tab_words.specs.Texts.{texts_below}
 use Rattle.view_doc.specs.declared.view.View.{View}
@@ -10,6 +10,7 @@ use Rattle.view_table.specs.declared.figures.Figures.{Figures}
 use Rattle.view_lanes.specs.Shown.{cores_in, shows_nothing}
 use Rattle.view_lanes.specs.declared.frame.ChartOptions.{ChartOptions}
 use Rattle.view_chart.specs.Charts.{chart_text}
+use Rattle.view_page.specs.declared.page.Page.{Page}
 
 -- a byte that HTML never reads as markup: none of " & ' < >
 abbrev pub is_plain : ℕ → Bool
@@ -92,7 +93,9 @@ differences_part (Some text) = framed_text text
 
 -- the page of a plan or a run: its tables and pictures, and where these are given, the script and what
 -- differs from an older plan
-abbrev pub page_text : Option (List Vcpu) → ℕ → View → Figures → Option (List ℕ) → Option (List ℕ) → List ℕ
-page_text host tick view figures script differences = top_text (cores_in view) (length view.names.items) tick
-    ++ (tables_part host tick view ++ (pictures_part tick view figures ++ (script_part script
-    ++ (differences_part differences ++ codes "</body>\n</html>\n"))))
+abbrev pub page_text : Page → List ℕ
+page_text page = top_text (cores_in page.view.now) (length page.view.now.names.items) page.tick_ns
+    ++ (tables_part (option_copied page.host) page.tick_ns page.view.now
+    ++ (pictures_part page.tick_ns page.view.now page.figures.now
+    ++ (script_part (option_copied page.script)
+    ++ (differences_part (option_copied page.differences) ++ codes "</body>\n</html>\n"))))

@@ -10,4 +10,4 @@ mod page;
 mod part;
 
 pub use laws::a_name_is_no_markup;
-pub use page::write_page;
+pub use page::{Page, write_page};

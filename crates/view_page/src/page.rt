@@ -16,37 +16,43 @@ use view_doc::View;
 use view_lanes::{ChartFault, cores_in};
 use view_table::{Figures, write_table, write_vm_table};
 
-/// Writes a view of at most 32 cores and 256 vCPUs as one page of HTML, for a tick of so many nanoseconds.
+/// What a page shows.
+#[derive(Clone, Copy)]
+pub struct Page<'a> {
+    /// The vCPUs of the host, whose reservations the tables of a plan have, where they are known.
+    pub host: Option<&'a [Vcpu]>,
+    /// The plan or the run.
+    pub view: &'a View,
+    /// The figures of the view.
+    pub figures: &'a Figures,
+    /// Nanoseconds of a tick.
+    pub tick_ns: u16,
+    /// The script of the run, where it is given.
+    pub script: Option<&'a [u8]>,
+    /// What differs from an older plan, as `write_diff` writes it, where it is given.
+    pub differences: Option<&'a [u8]>,
+}
+
+/// Writes a view of at most 32 cores and 256 vCPUs as one page of HTML.
 ///
-/// The page has the tables of a plan, beside what the vCPUs of a host have reserved where these are known, the pictures by
-/// core and by vCPU, the script of a run, and what differs from an older plan, as `write_diff` writes it, where these are
-/// given. It loads nothing, and suits wide and narrow screens, light and dark.
+/// The page has the tables of a plan, beside what the vCPUs of a host have reserved, the pictures by core and by vCPU, the
+/// script of a run, and what differs from an older plan. It loads nothing, and suits wide and narrow screens, light and
+/// dark.
 ///
 /// It fails where the sink does, or where memory runs out; a prefix of the page is in the sink then. Nothing is
 /// settled.
-pub fn write_page<K: Sink>(
-    alloc: Global,
-    sink: &mut K,
-    host: Option<&[Vcpu]>,
-    view: &View,
-    figures: &Figures,
-    tick_ns: u16,
-    script: Option<&[u8]>,
-    differences: Option<&[u8]>,
-) -> Result<(), ChartFault>
-    requires cores { view.now.cores ≤ MAX_CORES }
-    requires vcpus { length view.now.names.items ≤ MAX_VCPUS }
-    requires tasks { length view.now.tasks.items ≤ MAX_VCPUS }
-    requires figures { AreFigures view.now figures.now }
-    ensures { WritesPart (K.state sink.old) (K.state sink.new)
-        (page_text (option_copied host.entry) tick_ns view.now figures.now (option_copied script.entry)
-        (option_copied differences.entry)) result }
+pub fn write_page<K: Sink>(alloc: Global, sink: &mut K, page: &Page<'_>) -> Result<(), ChartFault>
+    requires cores { page.now.view.now.cores ≤ MAX_CORES }
+    requires vcpus { length page.now.view.now.names.items ≤ MAX_VCPUS }
+    requires tasks { length page.now.view.now.tasks.items ≤ MAX_VCPUS }
+    requires figures { AreFigures page.now.view.now page.now.figures.now }
+    ensures { WritesPart (K.state sink.old) (K.state sink.new) (page_text page.now) result }
 {
-    put_top(sink, view, tick_ns)?;
-    put_tables(sink, host, view, figures, tick_ns)?;
-    put_pictures(alloc, sink, view, figures, tick_ns)?;
-    put_script(sink, &script)?;
-    put_differences(sink, &differences)?;
+    put_top(sink, page.view, page.tick_ns)?;
+    put_tables(sink, page.host, page.view, page.figures, page.tick_ns)?;
+    put_pictures(alloc, sink, page.view, page.figures, page.tick_ns)?;
+    put_script(sink, &page.script)?;
+    put_differences(sink, &page.differences)?;
     put_text(sink, b"</body>\n</html>\n")
 }
 

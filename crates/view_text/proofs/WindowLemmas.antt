@@ -130,3 +130,13 @@ letter_window f columns vcpus bars start stop j few order within before behind =
     (width_at f columns j - held_at f columns window j)) (owned (leader (owned_at f columns bars j) vcpus))
     ∙ ap (λ n. letter_for (leader (owned_at f columns bars j) vcpus)
     (owned_at f columns bars j (leader (owned_at f columns bars j) vcpus)) (width_at f columns j - n)) held)
+
+-- a column's letter is that of its window, by edges that were computed
+pub letter_in_window : (f : Frame) (columns vcpus : ℕ) (bars : List Bar) (start stop j first last : ℕ) → vcpus ≤ 256
+    → first ≡ edge_of f columns j → last ≡ edge_of f columns (j + 1) → AreBefore first bars start → start ≤ stop
+    → stop ≤ length bars → AreBehind last bars stop
+    → letter_at f columns vcpus (take (stop - start) (drop start bars)) j ≡ letter_at f columns vcpus bars j
+letter_in_window f columns vcpus bars start stop j first last few is_first is_last before order within behind =
+    letter_window f columns vcpus bars start stop j few order within
+    (subst (λ tick. AreBefore tick bars start) is_first before)
+    (subst (λ tick. AreBehind tick bars stop) is_last behind)

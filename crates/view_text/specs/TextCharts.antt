@@ -4,13 +4,11 @@ use Rattle.std.specs.Prelude.{ℕ, zero, suc, ◌+◌, ◌-◌, ◌/◌, ◌%◌
 use Rattle.std.specs.List.{sum_by}
 use Rattle.tab_words.specs.Texts.{texts_below}
 use Rattle.vcpu_names.specs.Names.{name_at}
-use Rattle.view_doc.specs.declared.view.Stretch.{Stretch}
 use Rattle.view_doc.specs.declared.view.View.{View}
-use Rattle.view_doc.specs.Views.{shown_in}
 use Rattle.view_lanes.specs.Amounts.{per_mille}
 use Rattle.view_lanes.specs.Columns.{column_ticks, ticks_in, width_at}
-use Rattle.view_lanes.specs.Shown.{chart_lanes, cores_in, frame_of, held_in}
-use Rattle.view_lanes.specs.Titles.{head_of, plural, sub_text, title_text}
+use Rattle.view_lanes.specs.Shown.{chart_lanes, frame_of, held_in}
+use Rattle.view_lanes.specs.Titles.{head_in, plural, sub_text, title_text}
 use Rattle.view_lanes.specs.declared.frame.Bar.{Bar}
 use Rattle.view_lanes.specs.declared.frame.ChartOptions.{ChartOptions}
 use Rattle.view_lanes.specs.declared.frame.Frame.{Frame}
@@ -111,11 +109,15 @@ more_vcpus_text vcpus = if nat_lt 52 vcpus then more_line (vcpus - 52) (plural (
 abbrev pub title_lines : Head → List ℕ
 title_lines h = title_text h ++ (codes "\n" ++ (sub_text h ++ codes "\n"))
 
--- the text of these lanes of these stretches
-abbrev pub lanes_text : Frame → List Stretch → ℕ → ℕ → ℕ → List (List ℕ) → List (List Bar) → List ℕ
-lanes_text f stretches columns first cores names lanes = title_lines (head_of f stretches cores (length names) lanes)
-    ++ (texts_below (lane_line_at f columns (length names) first lanes) (length lanes)
+-- the text of these lanes of vCPUs of these names, below what the head says
+abbrev pub lanes_text : TextOptions → Frame → Head → List (List ℕ) → List (List Bar) → List ℕ
+lanes_text options f h names lanes = title_lines h
+    ++ (texts_below (lane_line_at f options.columns (length names) options.first lanes) (length lanes)
     ++ (texts_below (letter_key_at names) (lettered (length names)) ++ more_vcpus_text (length names)))
+
+-- the text of these lanes of a view
+abbrev pub view_text : TextOptions → Frame → View → List (List Bar) → List ℕ
+view_text options f view lanes = lanes_text options f (head_in f view lanes) view.names.items lanes
 
 -- a text has the lanes and ticks of a picture by core
 abbrev pub by_core : TextOptions → ChartOptions
@@ -132,5 +134,4 @@ by_core options = record {
 
 -- the text of a view
 abbrev pub text_chart : TextOptions → View → List ℕ
-text_chart options view = lanes_text (frame_of view (by_core options)) (shown_in view) options.columns options.first
-    (cores_in view) view.names.items (chart_lanes view (by_core options))
+text_chart options view = view_text options (frame_of view (by_core options)) view (chart_lanes view (by_core options))

@@ -5,9 +5,8 @@ ghost use Rattle.tab_words.specs.Texts.{texts_below};
 ghost use Rattle.vcpu_names.specs.Names.{name_at as name_of};
 ghost use Rattle.view_lanes.specs.Columns.{edge_of};
 ghost use Rattle.view_lanes.specs.Shown.{shows_nothing};
-ghost use Rattle.view_lanes.specs.Titles.{head_of, plural};
-ghost use Rattle.view_text.specs.Inside.Windows.{AreBefore, AreBehind};
-ghost use Rattle.view_text.specs.TextCharts.{by_core, cell_at, gap_before, gap_behind, key_gap, lane_line, lane_line_at, lanes_text, letter_key_at, letter_key_name, letter_of, lettered, line_begin, line_end, more_line, more_vcpus_text, text_chart, title_lines};
+ghost use Rattle.view_lanes.specs.Titles.{plural};
+ghost use Rattle.view_text.specs.TextCharts.{by_core, cell_at, gap_before, gap_behind, key_gap, lane_line, lane_line_at, lanes_text, letter_key_at, letter_key_name, letter_of, lettered, line_begin, line_end, more_line, more_vcpus_text, text_chart, title_lines, view_text};
 ghost use Rattle.view_lanes.specs.declared.fault.ChartFault.TheVariants as fault;
 
 use crate::letters::{letter_at, letter_of};
@@ -17,11 +16,10 @@ use std::alloc::Global;
 use tab_core::Name;
 use tab_io::{Sink, WriteFault, write_all};
 use tab_words::{TextPiece, put_pieces};
-use view_doc::{Stretch, View};
+use view_doc::View;
 use view_lanes::{
-    Bar, ChartFault, ChartOptions, Frame, Head, Lane, cores_in, edge_of, frame_of, head_of,
-    held_in, lanes_from, lanes_of, name_at, per_mille, put_sub, put_title, shown_in, shows_nothing,
-    span_of,
+    Bar, ChartFault, ChartOptions, Frame, Head, Lane, edge_of, frame_of, head_in, held_in,
+    lanes_from, lanes_of, name_at, per_mille, put_sub, put_title, shown_in, shows_nothing, span_of,
 };
 
 /// Draws a view of at most 32 cores and 256 vCPUs as a text: a line for each core, in it a letter for each
@@ -58,17 +56,7 @@ pub fn write_text_chart<K: Sink>(
     let Ok(lanes) = lanes_from(alloc, &frame, shown_in(view), options.first, count) else {
         return Err(ChartFault::NoMemory);
     };
-    let written = put_text(
-        sink,
-        &frame,
-        shown_in(view),
-        options.columns,
-        options.first,
-        cores_in(view),
-        &view.names,
-        &lanes,
-    );
-    match written {
+    match put_view(sink, options, &frame, view, &lanes) {
         Ok(()) => Ok(()),
         Err(WriteFault) => Err(ChartFault::Write),
     }
@@ -90,44 +78,52 @@ pub(crate) fn by_core(options: &TextOptions) -> ChartOptions
     }
 }
 
-// Writes the text of these lanes of these stretches, of which the first is a core's.
+// Writes the text of these lanes of a view.
+fn put_view<K: Sink>(
+    sink: &mut K,
+    options: &TextOptions,
+    frame: &Frame,
+    view: &View,
+    lanes: &[Lane],
+) -> Result<(), WriteFault>
+    requires lanes { length lanes.now ≤ MAX_VCPUS }
+    requires vcpus { length view.now.names.items ≤ MAX_VCPUS }
+    requires some { 0 < options.now.columns }
+    requires few { options.now.columns ≤ 8000 }
+    ensures { Writes (K.state sink.old) (K.state sink.new)
+        (view_text options.now frame.now view.now lanes.now) result }
+{
+    let head = head_in(frame, view, lanes);
+    put_text(sink, options, frame, &head, &view.names, lanes)
+}
+
+// Writes the text of these lanes, each a core's, of vCPUs of these names, below what the head says.
 fn put_text<K: Sink>(
     sink: &mut K,
+    options: &TextOptions,
     frame: &Frame,
-    stretches: &[Stretch],
-    columns: u32,
-    first: u32,
-    cores: u32,
+    head: &Head,
     names: &[Name],
     lanes: &[Lane],
 ) -> Result<(), WriteFault>
     requires lanes { length lanes.now ≤ MAX_VCPUS }
     requires vcpus { length names.now ≤ MAX_VCPUS }
-    requires some { 0 < columns }
-    requires few { columns ≤ 8000 }
+    requires some { 0 < options.now.columns }
+    requires few { options.now.columns ≤ 8000 }
     ensures { Writes (K.state sink.old) (K.state sink.new)
-        (lanes_text frame.now stretches.now columns first cores names.now lanes.now) result }
+        (lanes_text options.now frame.now head.now names.now lanes.now) result }
 {
-    put_text_head(sink, frame, stretches, cores, names, lanes)?;
-    put_lines(sink, frame, columns, names.len(), first, lanes)?;
+    put_head_lines(sink, head)?;
+    put_lines(
+        sink,
+        frame,
+        options.columns,
+        names.len(),
+        options.first,
+        lanes,
+    )?;
     put_keys(sink, names)?;
     put_more(sink, names.len())
-}
-
-fn put_text_head<K: Sink>(
-    sink: &mut K,
-    frame: &Frame,
-    stretches: &[Stretch],
-    cores: u32,
-    names: &[Name],
-    lanes: &[Lane],
-) -> Result<(), WriteFault>
-    requires { length lanes.now ≤ MAX_VCPUS }
-    ensures { Writes (K.state sink.old) (K.state sink.new)
-        (title_lines (head_of frame.now stretches.now cores (length names.now) lanes.now)) result }
-{
-    let head = head_of(frame, stretches, cores, names.len() as u64, lanes);
-    put_head_lines(sink, &head)
 }
 
 fn put_head_lines<K: Sink>(sink: &mut K, head: &Head) -> Result<(), WriteFault>
@@ -284,36 +280,28 @@ fn put_cells<K: Sink>(
     for j in 0..columns {
         start = first_from(bars, start, edge_of(frame, columns, j));
         let stop = first_behind(bars, rise, start, edge_of(frame, columns, j + 1));
-        put_cell(sink, frame, columns, vcpus, bars, start, stop, j)?;
+        // the other bars have nothing in the column
+        put_cell(sink, frame, columns, vcpus, &bars[start..stop], j)?;
     }
     Ok(())
 }
 
-// Writes the letter of a column, in which the bars from `start` up to `stop` alone have ticks.
+// Writes the letter of a column, of which these bars have ticks.
 fn put_cell<K: Sink>(
     sink: &mut K,
     frame: &Frame,
     columns: u32,
     vcpus: usize,
     bars: &[Bar],
-    start: usize,
-    stop: usize,
     j: u32,
 ) -> Result<(), WriteFault>
     requires vcpus { vcpus ≤ MAX_VCPUS }
     requires there { j < columns }
     requires few { columns ≤ 8000 }
-    requires order { start ≤ stop }
-    requires within { stop ≤ length bars.now }
-    requires before { AreBefore (edge_of frame.now columns j) bars.now start }
-    requires behind { AreBehind (edge_of frame.now columns (j + 1)) bars.now stop }
     ensures { Writes (K.state sink.old) (K.state sink.new)
         (cell_at frame.now columns vcpus bars.now j) result }
 {
-    write_all(
-        sink,
-        &[letter_at(frame, columns, vcpus, &bars[start..stop], j)],
-    )
+    write_all(sink, &[letter_at(frame, columns, vcpus, bars, j)])
 }
 
 // Writes the vCPUs' letters.
