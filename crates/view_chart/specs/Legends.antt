@@ -4,6 +4,7 @@ use Rattle.std.specs.Prelude.{ℕ, ◌+◌, ◌-◌, ◌*◌, ◌/◌, ◌%◌, 
 use Rattle.tab_words.specs.Texts.{texts_below}
 use Rattle.vcpu_names.specs.Names.{name_at}
 use Rattle.view_doc.specs.declared.view.Task.{Task}
+use Rattle.view_svg.specs.Drawings.{PaletteView}
 use Rattle.view_svg.specs.Keys.{count_below, has_lane}
 use Rattle.view_svg.specs.Marks.{short_back, short_dots, short_front}
 use Rattle.view_lanes.specs.Amounts.{per_mille, tenths_ms}
@@ -80,15 +81,15 @@ entry_at tick x y colour name task = swatch colour x (y - 850)
     ++ (legend_name (x + 1300) y (short_front name) (short_dots name) (short_back name) ++ task_entry tick x y task)
 
 -- the key of a number is in the place of a number, if it has a box
-abbrev pub legend_entry : ℕ → ℕ → List (List ℕ) → List Task → List ℕ → Bool → ℕ → ℕ → List ℕ
-legend_entry tick foot names tasks colours false k v = []
-legend_entry tick foot names tasks colours true k v = entry_at tick (column_of k) (legend_row foot k)
-    (slice_index colours v) (name_at names v) (slice_get tasks v)
+abbrev pub legend_entry : ℕ → ℕ → PaletteView → Bool → ℕ → ℕ → List ℕ
+legend_entry tick foot p false k v = []
+legend_entry tick foot p true k v = entry_at tick (column_of k) (legend_row foot k) (slice_index p.colours v)
+    (name_at p.names v) (slice_get p.tasks v)
 
 -- the entry of the key of this number, if it has a box, in the place of its rank among those that have one
-abbrev pub legend_entry_at : ℕ → ℕ → List (List ℕ) → List Task → List ℕ → List (List Bar) → ℕ → List ℕ
-legend_entry_at tick foot names tasks colours lanes v = legend_entry tick foot names tasks colours (has_lane lanes v)
-    (count_below (has_lane lanes) v) v
+abbrev pub legend_entry_at : ℕ → ℕ → PaletteView → List (List Bar) → ℕ → List ℕ
+legend_entry_at tick foot p lanes v =
+    legend_entry tick foot p (has_lane lanes v) (count_below (has_lane lanes) v) v
 
 -- how many have a box on one of the lanes
 abbrev pub listed_in : List (List Bar) → List (List ℕ) → ℕ
@@ -96,9 +97,9 @@ listed_in lanes names = count_below (has_lane lanes) (length names)
 
 -- the list below lanes that end there: the heads of up to four columns, and an entry for each key
 -- that has a box
-abbrev pub legend_text : Frame → ℕ → List (List ℕ) → List Task → List ℕ → List (List Bar) → List ℕ
-legend_text f foot names tasks colours lanes = texts_below (head_at f foot tasks) (min (listed_in lanes names) 4)
-    ++ texts_below (legend_entry_at f.tick foot names tasks colours lanes) (length names)
+abbrev pub legend_text : Frame → ℕ → PaletteView → List (List Bar) → List ℕ
+legend_text f foot p lanes = texts_below (head_at f foot p.tasks) (min (listed_in lanes p.names) 4)
+    ++ texts_below (legend_entry_at f.tick foot p lanes) (length p.names)
 
 -- where the list of so many keys ends, below its last row
 abbrev pub legend_end : ℕ → ℕ → ℕ

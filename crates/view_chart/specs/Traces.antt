@@ -4,13 +4,14 @@ use Rattle.std.specs.Prelude.{ℕ, ◌+◌, ◌-◌, ◌*◌, ◌/◌, ◌++◌,
 use Rattle.tab_words.specs.Texts.{texts_below}
 use Rattle.view_doc.specs.declared.view.View.{View}
 use Rattle.view_table.specs.declared.figures.Figures.{Figures}
+use Rattle.view_svg.specs.Drawings.{PaletteView}
 use Rattle.view_svg.specs.Frames.{foot_of, x_at}
 use Rattle.view_chart.specs.Axes.{end_tick, first_tick, tick_step, tick_text, time_axis}
-use Rattle.view_chart.specs.Charts.{grounds_text, lane_at, tall_of}
+use Rattle.view_chart.specs.Charts.{core_palette, grounds_text, lane_at, tall_of, vcpus_in}
 use Rattle.view_chart.specs.Heads.{desc_begin, style_text, svg_begin, title_begin}
 use Rattle.view_chart.specs.Legends.{legend_text, listed_in}
-use Rattle.view_lanes.specs.Colours.{core_names, core_tones, vcpu_tones}
-use Rattle.view_lanes.specs.Shown.{cores_in, trace_frame, trace_lanes}
+use Rattle.view_lanes.specs.Colours.{vcpu_tones}
+use Rattle.view_lanes.specs.Shown.{trace_frame, trace_lanes}
 use Rattle.view_lanes.specs.Titles.{head_in, trace_sub, trace_title}
 use Rattle.view_lanes.specs.declared.frame.Bar.{Bar}
 use Rattle.view_lanes.specs.declared.frame.ChartOptions.{ChartOptions}
@@ -64,24 +65,32 @@ trace_axis f foot = time_axis f foot ++ ns_axis f foot
 
 -- ---- the picture
 
--- the picture of these lanes of a trace: the vCPUs have these figures, and the keys of the bars these names and tones
-unfoldable pub drawn_trace : ChartOptions → Frame → View → Figures → List (List ℕ) → List ℕ → List (List Bar) → List ℕ
-drawn_trace options f view figures names tones lanes =
-    trace_head options.width (tall_of (length lanes) (listed_in lanes names)) (head_in f view lanes) f.tick
+-- the picture of these lanes of a trace: the vCPUs have these figures, and the keys of the bars are shown so
+unfoldable pub drawn_trace : ChartOptions → Frame → View → Figures → PaletteView → List (List Bar) → List ℕ
+drawn_trace options f view figures p lanes =
+    trace_head options.width (tall_of (length lanes) (listed_in lanes p.names)) (head_in f view lanes) f.tick
     ++ (grounds_text (length lanes)
     ++ (trace_axis f (foot_of (length lanes))
-    ++ (texts_below (lane_at f options.first view.names.items figures [] names [] tones lanes) (length lanes)
-    ++ (legend_text f (foot_of (length lanes)) names [] tones lanes ++ codes "</svg>\n"))))
+    ++ (texts_below (lane_at f options.first (vcpus_in view figures []) p lanes) (length lanes)
+    ++ (legend_text f (foot_of (length lanes)) p lanes ++ codes "</svg>\n"))))
+
+-- how vCPUs of a trace are shown as keys of bars: without tasks
+abbrev pub traced_palette : View → Figures → PaletteView
+traced_palette view figures = record {
+  names = view.names.items;
+  tasks = [];
+  colours = vcpu_tones view figures;
+}
 
 -- the picture of a trace with a lane for each core that is shown
 abbrev pub cores_trace : ChartOptions → Frame → View → Figures → List ℕ
 cores_trace options f view figures =
-    drawn_trace options f view figures view.names.items (vcpu_tones view figures) (trace_lanes options f view)
+    drawn_trace options f view figures (traced_palette view figures) (trace_lanes options f view)
 
 -- the picture of a trace with a lane for each vCPU that is shown
 abbrev pub vcpus_trace : ChartOptions → Frame → View → Figures → List ℕ
-vcpus_trace options f view figures = drawn_trace options f view figures (core_names (cores_in view))
-    (core_tones (cores_in view)) (trace_lanes options f view)
+vcpus_trace options f view figures =
+    drawn_trace options f view figures (core_palette view) (trace_lanes options f view)
 
 -- the picture of a trace that ends at a tick: with lanes of cores, or of vCPUs
 abbrev pub trace_chart : ChartOptions → ℕ → View → Figures → List ℕ

@@ -3,7 +3,7 @@ ghost use Rattle.tab_core.specs.declared.TheConstants.{MAX_CORES, MAX_VCPUS};
 ghost use Rattle.tab_io.specs.Sinks.{Writes};
 ghost use Rattle.view_table.specs.Figures.{AreFigures};
 ghost use Rattle.view_chart.specs.Charts.{chart_text, cores_chart, vcpus_chart};
-ghost use Rattle.view_lanes.specs.Shown.{chart_lanes, frame_of, shows_nothing};
+ghost use Rattle.view_lanes.specs.Shown.{chart_lanes, shows_nothing};
 ghost use Rattle.view_lanes.specs.declared.fault.ChartFault.TheVariants as fault;
 
 use crate::picture::put_picture;
@@ -12,9 +12,10 @@ use tab_core::NoMemory;
 use tab_io::{Sink, WriteFault};
 use view_doc::View;
 use view_lanes::{
-    ChartFault, ChartOptions, Frame, Lane, core_names, core_tones, cores_in, frame_of, lanes_from,
+    ChartFault, ChartOptions, Lane, core_names, core_tones, cores_in, frame_of, lanes_from,
     lanes_of, shown_in, shows_nothing, vcpu_tones,
 };
+use view_svg::{Palette, Vcpus};
 use view_table::Figures;
 
 /// Draws a view of at most 32 cores and 256 vCPUs as a picture, in SVG.
@@ -53,13 +54,9 @@ pub fn write_chart<K: Sink>(
         return Err(ChartFault::NoMemory);
     };
     if options.by_vcpu {
-        draw_vcpus(
-            alloc, sink, view, figures, promises, options, &frame, &lanes,
-        )
+        draw_vcpus(alloc, sink, view, figures, promises, options, &lanes)
     } else {
-        draw_cores(
-            alloc, sink, view, figures, promises, options, &frame, &lanes,
-        )
+        draw_cores(alloc, sink, view, figures, promises, options, &lanes)
     }
 }
 
@@ -71,11 +68,9 @@ fn draw_cores<K: Sink>(
     figures: &Figures,
     promises: &[Option<u64>],
     options: &ChartOptions,
-    frame: &Frame,
     lanes: &[Lane],
 ) -> Result<(), ChartFault>
     requires vcpus { length view.now.names.items ≤ MAX_VCPUS }
-    requires frame { frame.now ≡ frame_of view.now options.now }
     requires lanes { lanes.now ≡ chart_lanes view.now options.now }
     requires few { length lanes.now ≤ MAX_VCPUS }
     ensures ok { IfOk result (λ u. Writes (K.state sink.old) (K.state sink.new)
@@ -88,21 +83,18 @@ fn draw_cores<K: Sink>(
     let Ok(tones) = vcpu_tones(alloc, view, figures) else {
         return Err(ChartFault::NoMemory);
     };
-    told(put_picture(
-        sink,
-        frame,
-        shown_in(view),
-        options.width,
-        options.first,
-        cores_in(view),
-        &view.names,
+    let frame = frame_of(view, options);
+    let vcpus = Vcpus {
+        names: &view.names,
         figures,
         promises,
-        &view.names,
-        &view.tasks,
-        &tones,
-        lanes,
-    ))
+    };
+    let palette = Palette {
+        names: &view.names,
+        tasks: &view.tasks,
+        colours: &tones,
+    };
+    told(put_picture(sink, options, &frame, view, &vcpus, &palette, lanes))
 }
 
 // Draws lanes of vCPUs.
@@ -113,11 +105,9 @@ fn draw_vcpus<K: Sink>(
     figures: &Figures,
     promises: &[Option<u64>],
     options: &ChartOptions,
-    frame: &Frame,
     lanes: &[Lane],
 ) -> Result<(), ChartFault>
     requires cores { view.now.cores ≤ MAX_CORES }
-    requires frame { frame.now ≡ frame_of view.now options.now }
     requires lanes { lanes.now ≡ chart_lanes view.now options.now }
     requires few { length lanes.now ≤ MAX_VCPUS }
     ensures ok { IfOk result (λ u. Writes (K.state sink.old) (K.state sink.new)
@@ -134,21 +124,18 @@ fn draw_vcpus<K: Sink>(
     let Ok(tones) = core_tones(alloc, cores) else {
         return Err(ChartFault::NoMemory);
     };
-    told(put_picture(
-        sink,
-        frame,
-        shown_in(view),
-        options.width,
-        options.first,
-        cores,
-        &view.names,
+    let frame = frame_of(view, options);
+    let vcpus = Vcpus {
+        names: &view.names,
         figures,
         promises,
-        &names,
-        &[],
-        &tones,
-        lanes,
-    ))
+    };
+    let palette = Palette {
+        names: &names,
+        tasks: &[],
+        colours: &tones,
+    };
+    told(put_picture(sink, options, &frame, view, &vcpus, &palette, lanes))
 }
 
 // What a fault of writing is here.

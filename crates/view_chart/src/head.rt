@@ -1,4 +1,4 @@
-ghost use Rattle.std.specs.Prelude.{◌≡◌, ◌&&◌, ◌-◌, ◌*◌, ◌/◌, ◌<◌, ◌++◌};
+ghost use Rattle.std.specs.Prelude.{◌≡◌, ◌&&◌, ◌-◌, ◌*◌, ◌/◌, ◌<◌};
 ghost use Rattle.tab_io.specs.Sinks.{Writes};
 ghost use Rattle.tab_words.specs.Texts.{texts_below};
 ghost use Rattle.view_chart.specs.Heads.{boxes_key, colour_of, columns_key, columns_note, desc_begin, fills_at, fills_of, foot_fill, head_end, head_text, rules_at, stripes, style_begin, style_dark, style_text, svg_begin, title_begin, tone_rules};

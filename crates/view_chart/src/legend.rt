@@ -1,9 +1,11 @@
-ghost use Rattle.std.specs.Prelude.{◌≡◌, ◌<◌, ◌≤◌, ◌^◌, length, min, slice_get};
+ghost use Rattle.std.specs.Prelude.{◌≡◌, ◌<◌, ◌≤◌, ◌^◌, length, min, slice_get, slice_index};
 ghost use Rattle.tab_core.specs.declared.TheConstants.{MAX_VCPUS};
 ghost use Rattle.tab_io.specs.Sinks.{Writes};
 ghost use Rattle.tab_words.specs.Texts.{texts_below};
+ghost use Rattle.vcpu_names.specs.Names.{name_at};
+ghost use Rattle.view_svg.specs.Drawings.{palette_view};
 ghost use Rattle.view_svg.specs.Frames.{foot_of};
-ghost use Rattle.view_svg.specs.Keys.{count_below, has_lane};
+ghost use Rattle.view_svg.specs.Keys.{count_below};
 ghost use Rattle.view_svg.specs.Marks.{short_back, short_dots, short_front};
 ghost use Rattle.view_chart.specs.Legends.{column_of, entry_at, head_at, head_from, legend_entry, legend_entry_at, legend_head, legend_name, legend_row, legend_task, legend_text, listed_in, listed_word, swatch, task_cells, task_entry, task_head, task_heads};
 
@@ -12,44 +14,38 @@ use tab_io::{Sink, WriteFault};
 use tab_words::{TextPiece, put_pieces};
 use view_doc::Task;
 use view_lanes::{Frame, Lane, name_at, per_mille, tenths_ms};
-use view_svg::{count_below, foot_of, holders_in, next_place, short_back, short_dots, short_front};
+use view_svg::{
+    Palette, count_below, foot_of, holders_in, next_place, short_back, short_dots, short_front,
+};
 
 // Writes the list of the keys that have a box on one of the lanes, below them.
 pub(crate) fn put_legend<K: Sink>(
     sink: &mut K,
     frame: &Frame,
-    names: &[Name],
-    tasks: &[Task],
-    colours: &[u32],
+    palette: &Palette<'_>,
     lanes: &[Lane],
 ) -> Result<(), WriteFault>
-    requires lanes { length lanes.now ≤ MAX_VCPUS }
-    requires few { length names.now ≤ MAX_VCPUS }
-    requires coloured { length names.now ≤ length colours.now }
+    requires { length lanes.now ≤ MAX_VCPUS }
     ensures { Writes (K.state sink.old) (K.state sink.new)
-        (legend_text frame.now (foot_of (length lanes.now)) names.now tasks.now colours.now lanes.now) result }
+        (legend_text frame.now (foot_of (length lanes.now)) (palette_view palette.now) lanes.now) result }
 {
     let foot = foot_of(lanes.len() as u32);
-    put_legend_at(sink, frame, foot, names, tasks, colours, lanes)
+    put_legend_at(sink, frame, foot, palette, lanes)
 }
 
 fn put_legend_at<K: Sink>(
     sink: &mut K,
     frame: &Frame,
     foot: u32,
-    names: &[Name],
-    tasks: &[Task],
-    colours: &[u32],
+    palette: &Palette<'_>,
     lanes: &[Lane],
 ) -> Result<(), WriteFault>
-    requires low { foot < 2 ^ 31 }
-    requires few { length names.now ≤ MAX_VCPUS }
-    requires coloured { length names.now ≤ length colours.now }
+    requires { foot < 2 ^ 31 }
     ensures { Writes (K.state sink.old) (K.state sink.new)
-        (legend_text frame.now foot names.now tasks.now colours.now lanes.now) result }
+        (legend_text frame.now foot (palette_view palette.now) lanes.now) result }
 {
-    put_heads(sink, frame, foot, names, tasks, lanes)?;
-    put_entries(sink, frame.tick, foot, names, tasks, colours, lanes)
+    put_heads(sink, frame, foot, palette, lanes)?;
+    put_entries(sink, frame.tick, foot, palette, lanes)
 }
 
 // How many of the names have a box on one of the lanes.
@@ -66,16 +62,16 @@ fn put_heads<K: Sink>(
     sink: &mut K,
     frame: &Frame,
     foot: u32,
-    names: &[Name],
-    tasks: &[Task],
+    palette: &Palette<'_>,
     lanes: &[Lane],
 ) -> Result<(), WriteFault>
-    requires low { foot < 2 ^ 31 }
-    requires few { length names.now ≤ MAX_VCPUS }
+    requires { foot < 2 ^ 31 }
     ensures { Writes (K.state sink.old) (K.state sink.new)
-        (texts_below (head_at frame.now foot tasks.now) (min (listed_in lanes.now names.now) 4)) result }
+        (texts_below (head_at frame.now foot palette.now.tasks.now)
+        (min (listed_in lanes.now palette.now.names.now) 4)) result }
 {
-    put_some_heads(sink, frame, foot, tasks, listed_in(lanes, names).min(4))
+    let count = listed_in(lanes, palette.names).min(4);
+    put_some_heads(sink, frame, foot, palette.tasks, count)
 }
 
 // Writes the heads of so many columns.
@@ -225,63 +221,52 @@ fn put_entries<K: Sink>(
     sink: &mut K,
     tick: u16,
     foot: u32,
-    names: &[Name],
-    tasks: &[Task],
-    colours: &[u32],
+    palette: &Palette<'_>,
     lanes: &[Lane],
 ) -> Result<(), WriteFault>
-    requires low { foot < 2 ^ 31 }
-    requires few { length names.now ≤ MAX_VCPUS }
-    requires coloured { length names.now ≤ length colours.now }
+    requires { foot < 2 ^ 31 }
     ensures { Writes (K.state sink.old) (K.state sink.new)
-        (texts_below (legend_entry_at tick foot names.now tasks.now colours.now lanes.now) (length names.now)) result }
+        (texts_below (legend_entry_at tick foot (palette_view palette.now) lanes.now) (length palette.now.names.now))
+        result }
 {
     let holders = holders_in(lanes);
     let mut place = 0;
-    for v in 0..names.len() {
+    for v in 0..palette.names.len() {
         let held = holders.has(VcpuNo(v as u32));
-        put_entry(
-            sink, tick, foot, names, tasks, colours, lanes, held, place, v,
-        )?;
+        put_entry(sink, tick, foot, palette, held, place, v)?;
         place = next_place(place, held);
     }
     Ok(())
 }
 
-// Writes what is said of a vCPU in a place, if it has a box.
+// Writes what is said of a key in a place, if it has a box.
 fn put_entry<K: Sink>(
     sink: &mut K,
     tick: u16,
     foot: u32,
-    names: &[Name],
-    tasks: &[Task],
-    colours: &[u32],
-    lanes: &[Lane],
+    palette: &Palette<'_>,
     held: bool,
     place: u32,
     v: usize,
 ) -> Result<(), WriteFault>
     requires low { foot < 2 ^ 31 }
     requires few { place < MAX_VCPUS }
-    requires coloured { v < length colours.now }
-    requires held { held ≡ has_lane lanes.now v }
-    requires place { place ≡ count_below (has_lane lanes.now) v }
+    requires coloured { v < length palette.now.colours.now }
     ensures { Writes (K.state sink.old) (K.state sink.new)
-        (legend_entry_at tick foot names.now tasks.now colours.now lanes.now v) result }
+        (legend_entry tick foot (palette_view palette.now) held place v) result }
 {
-    if !held {
-        return Ok(());
+    if held {
+        put_entry_at(
+            sink,
+            tick,
+            column_of(place),
+            row_of(foot, place),
+            palette,
+            v,
+        )
+    } else {
+        Ok(())
     }
-    put_entry_at(
-        sink,
-        tick,
-        column_of(place),
-        row_of(foot, place),
-        colours[v],
-        name_at(names, v),
-        tasks,
-        v,
-    )
 }
 
 fn put_entry_at<K: Sink>(
@@ -289,19 +274,48 @@ fn put_entry_at<K: Sink>(
     tick: u16,
     x: u32,
     y: u32,
-    colour: u32,
-    name: &[u8],
-    tasks: &[Task],
+    palette: &Palette<'_>,
     v: usize,
 ) -> Result<(), WriteFault>
     requires x { x ≤ 115000 }
     requires y { 5500 ≤ y }
+    requires coloured { v < length palette.now.colours.now }
     ensures { Writes (K.state sink.old) (K.state sink.new)
-        (entry_at tick x y colour name.now (slice_get tasks.now v)) result }
+        (entry_at tick x y (slice_index palette.now.colours.now v) (name_at palette.now.names.now v)
+        (slice_get palette.now.tasks.now v)) result }
 {
-    put_swatch(sink, colour, x, y - 850)?;
-    put_legend_name(sink, x + 1300, y, name)?;
-    put_task(sink, tick, x, y, tasks, v)
+    put_tone(sink, palette.colours, v, x, y - 850)?;
+    put_name(sink, x + 1300, y, palette.names, v)?;
+    put_task(sink, tick, x, y, palette.tasks, v)
+}
+
+// Writes the box of a key's colour.
+fn put_tone<K: Sink>(
+    sink: &mut K,
+    colours: &[u32],
+    v: usize,
+    x: u32,
+    y: u32,
+) -> Result<(), WriteFault>
+    requires { v < length colours.now }
+    ensures { Writes (K.state sink.old) (K.state sink.new) (swatch (slice_index colours.now v) x y) result }
+{
+    put_swatch(sink, colours[v], x, y)
+}
+
+// Writes a key's name.
+fn put_name<K: Sink>(
+    sink: &mut K,
+    x: u32,
+    y: u32,
+    names: &[Name],
+    v: usize,
+) -> Result<(), WriteFault>
+    ensures { Writes (K.state sink.old) (K.state sink.new)
+        (legend_name x y (short_front (name_at names.now v)) (short_dots (name_at names.now v))
+        (short_back (name_at names.now v))) result }
+{
+    put_legend_name(sink, x, y, name_at(names, v))
 }
 
 #[tactic(auto, unfolding(crate::specs::Legends::swatch))]

@@ -2,12 +2,13 @@ ghost use Rattle.std.specs.Prelude.{◌≡◌, ◌<◌, ◌≤◌, length};
 ghost use Rattle.tab_core.specs.declared.TheConstants.{MAX_VCPUS};
 ghost use Rattle.tab_io.specs.Sinks.{Writes};
 ghost use Rattle.tab_words.specs.Texts.{texts_below};
+ghost use Rattle.view_svg.specs.Drawings.{IsInPicture, palette_view, vcpus_view};
 ghost use Rattle.view_svg.specs.Frames.{height_of, pitch_of};
 ghost use Rattle.view_svg.specs.Lanes.{ground_box};
-ghost use Rattle.view_chart.specs.Charts.{chart_of, grounds_text, lane_at, tall_of};
+ghost use Rattle.view_chart.specs.Charts.{band_at, chart_of, grounds_text, lane_at, tall_of};
 ghost use Rattle.view_chart.specs.Heads.{head_text};
 ghost use Rattle.view_chart.specs.Legends.{listed_in};
-ghost use Rattle.view_lanes.specs.Titles.{head_of};
+ghost use Rattle.view_lanes.specs.Titles.{head_in};
 
 use crate::axis::put_axis;
 use crate::head::put_head;
@@ -15,63 +16,39 @@ use crate::legend::{listed_in, put_legend};
 use crate::rounds::put_rounds;
 use tab_core::{Name, ROUND};
 use tab_io::{Sink, WriteFault, write_all};
-use view_doc::{Stretch, Task};
-use view_lanes::{Frame, Lane, head_of};
-use view_svg::{foot_of, height_of, pitch_of, put_box, put_lane, top_of};
-use view_table::Figures;
+use view_doc::View;
+use view_lanes::{ChartOptions, Frame, Lane, head_in, shown_in};
+use view_svg::{Band, Palette, Vcpus, foot_of, height_of, pitch_of, put_box, put_lane, top_of};
 
-// Writes the picture of these lanes of these stretches, of which the first is a core's or vCPU's. The vCPUs have
-// these labels and figures, and the keys of the bars those names, tasks and tones.
+// Writes a picture of these lanes of a view, of whose vCPUs this is known. The palette shows the bars' keys.
 pub(crate) fn put_picture<K: Sink>(
     sink: &mut K,
+    options: &ChartOptions,
     frame: &Frame,
-    stretches: &[Stretch],
-    width: u32,
-    first: u32,
-    cores: u32,
-    labels: &[Name],
-    figures: &Figures,
-    promises: &[Option<u64>],
-    names: &[Name],
-    tasks: &[Task],
-    colours: &[u32],
+    view: &View,
+    vcpus: &Vcpus<'_>,
+    palette: &Palette<'_>,
     lanes: &[Lane],
 ) -> Result<(), WriteFault>
-    requires lanes { length lanes.now ≤ MAX_VCPUS }
-    requires few { length names.now ≤ MAX_VCPUS }
-    requires coloured { length names.now ≤ length colours.now }
+    requires { length lanes.now ≤ MAX_VCPUS }
     ensures { Writes (K.state sink.old) (K.state sink.new)
-        (chart_of frame.now stretches.now width first cores labels.now figures.now promises.now names.now tasks.now colours.now
-        lanes.now) result }
+        (chart_of options.now frame.now view.now (vcpus_view vcpus.now) (palette_view palette.now) lanes.now) result }
 {
-    put_chart_head(
-        sink,
-        frame,
-        stretches,
-        width,
-        cores,
-        labels.len() as u64,
-        names,
-        lanes,
-    )?;
+    put_chart_head(sink, options.width, frame, view, palette.names, lanes)?;
     put_grounds(sink, lanes.len() as u32)?;
     put_axis(sink, frame, lanes.len() as u32)?;
-    put_lanes(
-        sink, frame, first, labels, figures, promises, names, tasks, colours, lanes,
-    )?;
-    put_rounds(sink, frame, stretches, lanes.len() as u32)?;
-    put_legend(sink, frame, names, tasks, colours, lanes)?;
+    put_lanes(sink, frame, options.first, vcpus, palette, lanes)?;
+    put_rounds(sink, frame, shown_in(view), lanes.len() as u32)?;
+    put_legend(sink, frame, palette, lanes)?;
     write_all(sink, b"</svg>\n")
 }
 
 // Writes the head.
 fn put_chart_head<K: Sink>(
     sink: &mut K,
-    frame: &Frame,
-    stretches: &[Stretch],
     width: u32,
-    cores: u32,
-    vcpus: u64,
+    frame: &Frame,
+    view: &View,
     names: &[Name],
     lanes: &[Lane],
 ) -> Result<(), WriteFault>
@@ -79,9 +56,9 @@ fn put_chart_head<K: Sink>(
     requires few { length names.now ≤ MAX_VCPUS }
     ensures { Writes (K.state sink.old) (K.state sink.new)
         (head_text width (tall_of (length lanes.now) (listed_in lanes.now names.now))
-        (head_of frame.now stretches.now cores vcpus lanes.now)) result }
+        (head_in frame.now view.now lanes.now)) result }
 {
-    let head = head_of(frame, stretches, cores, vcpus, lanes);
+    let head = head_in(frame, view, lanes);
     let keys = listed_in(lanes, names);
     put_head(sink, width, tall_of(lanes.len() as u32, keys), &head)
 }
@@ -147,25 +124,17 @@ pub(crate) fn put_lanes<K: Sink>(
     sink: &mut K,
     frame: &Frame,
     first: u32,
-    labels: &[Name],
-    figures: &Figures,
-    promises: &[Option<u64>],
-    names: &[Name],
-    tasks: &[Task],
-    colours: &[u32],
+    vcpus: &Vcpus<'_>,
+    palette: &Palette<'_>,
     lanes: &[Lane],
 ) -> Result<(), WriteFault>
-    requires lanes { length lanes.now ≤ MAX_VCPUS }
-    requires few { length names.now ≤ MAX_VCPUS }
-    requires coloured { length names.now ≤ length colours.now }
+    requires { length lanes.now ≤ MAX_VCPUS }
     ensures { Writes (K.state sink.old) (K.state sink.new)
-        (texts_below (lane_at frame.now first labels.now figures.now promises.now names.now tasks.now colours.now lanes.now) (length lanes.now))
-        result }
+        (texts_below (lane_at frame.now first (vcpus_view vcpus.now) (palette_view palette.now) lanes.now)
+        (length lanes.now)) result }
 {
     for i in 0..lanes.len() {
-        put_lane_at(
-            sink, frame, first, labels, figures, promises, names, tasks, colours, lanes, i,
-        )?;
+        put_lane_at(sink, frame, first, vcpus, palette, lanes, i)?;
     }
     Ok(())
 }
@@ -175,37 +144,30 @@ fn put_lane_at<K: Sink>(
     sink: &mut K,
     frame: &Frame,
     first: u32,
-    labels: &[Name],
-    figures: &Figures,
-    promises: &[Option<u64>],
-    names: &[Name],
-    tasks: &[Task],
-    colours: &[u32],
+    vcpus: &Vcpus<'_>,
+    palette: &Palette<'_>,
     lanes: &[Lane],
     i: usize,
 ) -> Result<(), WriteFault>
     requires lanes { length lanes.now ≤ MAX_VCPUS }
     requires there { i < length lanes.now }
-    requires few { length names.now ≤ MAX_VCPUS }
-    requires coloured { length names.now ≤ length colours.now }
     ensures { Writes (K.state sink.old) (K.state sink.new)
-        (lane_at frame.now first labels.now figures.now promises.now names.now tasks.now colours.now lanes.now i) result }
+        (lane_at frame.now first (vcpus_view vcpus.now) (palette_view palette.now) lanes.now i) result }
 {
-    let count = lanes.len() as u32;
+    let band = band_at(frame, lanes.len() as u32, i as u32);
     let row = u64::from(first) + i as u64;
-    let y = top_of(count, i as u32);
-    put_lane(
-        sink,
-        frame,
-        labels,
-        figures,
-        promises,
-        row,
-        y,
-        height_of(count),
-        names,
-        tasks,
-        colours,
-        lanes[i].bars(),
-    )
+    put_lane(sink, vcpus, row, &band, palette, lanes[i].bars())
+}
+
+// Where the lane of a number is of so many lanes.
+fn band_at(frame: &Frame, lanes: u32, i: u32) -> Band
+    requires { i ≤ MAX_VCPUS }
+    ensures value { result ≡ band_at frame.now lanes i }
+    ensures band { IsInPicture result }
+{
+    Band {
+        frame: *frame,
+        y: top_of(lanes, i),
+        high: height_of(lanes),
+    }
 }

@@ -7,7 +7,7 @@ ghost use Rattle.view_lanes.specs.Shown.{shows_no_trace, trace_lanes};
 ghost use Rattle.view_lanes.specs.declared.fault.ChartFault.TheVariants as fault;
 
 use crate::chart::told;
-use crate::trace_picture::{BarKeys, put_trace_picture};
+use crate::trace_picture::put_trace_picture;
 use std::alloc::Global;
 use tab_io::Sink;
 use view_doc::View;
@@ -15,6 +15,7 @@ use view_lanes::{
     ChartFault, ChartOptions, Frame, Lane, core_names, core_tones, cores_in, lanes_from, lanes_of,
     shown_in, shows_no_trace, trace_frame, vcpu_tones,
 };
+use view_svg::Palette;
 use view_table::Figures;
 
 /// Draws a host's trace of at most 32 cores and 256 vCPUs, which ends at a tick, as a picture, in SVG.
@@ -81,11 +82,12 @@ fn draw_cores<K: Sink>(
     let Ok(tones) = vcpu_tones(alloc, view, figures) else {
         return Err(ChartFault::NoMemory);
     };
-    let keys = BarKeys {
+    let palette = Palette {
         names: &view.names,
-        tones: &tones,
+        tasks: &[],
+        colours: &tones,
     };
-    told(put_trace_picture(sink, options, frame, view, figures, &keys, lanes))
+    told(put_trace_picture(sink, options, frame, view, figures, &palette, lanes))
 }
 
 // Draws lanes of vCPUs.
@@ -115,9 +117,10 @@ fn draw_vcpus<K: Sink>(
     let Ok(tones) = core_tones(alloc, cores) else {
         return Err(ChartFault::NoMemory);
     };
-    let keys = BarKeys {
+    let palette = Palette {
         names: &names,
-        tones: &tones,
+        tasks: &[],
+        colours: &tones,
     };
-    told(put_trace_picture(sink, options, frame, view, figures, &keys, lanes))
+    told(put_trace_picture(sink, options, frame, view, figures, &palette, lanes))
 }

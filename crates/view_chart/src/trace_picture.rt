@@ -4,6 +4,7 @@ ghost use Rattle.tab_io.specs.Sinks.{Writes};
 ghost use Rattle.view_chart.specs.Charts.{tall_of};
 ghost use Rattle.view_chart.specs.Legends.{listed_in};
 ghost use Rattle.view_chart.specs.Traces.{drawn_trace, trace_head};
+ghost use Rattle.view_svg.specs.Drawings.{palette_view};
 ghost use Rattle.view_lanes.specs.Titles.{head_in};
 
 use crate::legend::{listed_in, put_legend};
@@ -14,16 +15,8 @@ use tab_core::Name;
 use tab_io::{Sink, WriteFault, write_all};
 use view_doc::View;
 use view_lanes::{ChartOptions, Frame, Lane, head_in};
+use view_svg::{Palette, Vcpus};
 use view_table::Figures;
-
-// The keys of bars by number: the vCPUs on lanes of cores, the cores on lanes of vCPUs.
-#[derive(Clone, Copy)]
-pub(crate) struct BarKeys<'a> {
-    pub(crate) names: &'a [Name],
-    pub(crate) tones: &'a [u32],
-    ghost few: { length names.now ≤ MAX_VCPUS },
-    ghost toned: { length names.now ≤ length tones.now },
-}
 
 // Writes the picture of these lanes of a trace, whose vCPUs have these figures.
 pub(crate) fn put_trace_picture<K: Sink>(
@@ -32,30 +25,23 @@ pub(crate) fn put_trace_picture<K: Sink>(
     frame: &Frame,
     view: &View,
     figures: &Figures,
-    keys: &BarKeys<'_>,
+    palette: &Palette<'_>,
     lanes: &[Lane],
 ) -> Result<(), WriteFault>
     requires { length lanes.now ≤ MAX_VCPUS }
     ensures { Writes (K.state sink.old) (K.state sink.new)
-        (drawn_trace options.now frame.now view.now figures.now keys.now.names.now keys.now.tones.now lanes.now)
-        result }
+        (drawn_trace options.now frame.now view.now figures.now (palette_view palette.now) lanes.now) result }
 {
-    put_picture_head(sink, options.width, frame, view, keys.names, lanes)?;
+    let vcpus = Vcpus {
+        names: &view.names,
+        figures,
+        promises: &[],
+    };
+    put_picture_head(sink, options.width, frame, view, palette.names, lanes)?;
     put_grounds(sink, lanes.len() as u32)?;
     put_trace_axis(sink, frame, lanes.len() as u32)?;
-    put_lanes(
-        sink,
-        frame,
-        options.first,
-        &view.names,
-        figures,
-        &[],
-        keys.names,
-        &[],
-        keys.tones,
-        lanes,
-    )?;
-    put_legend(sink, frame, keys.names, &[], keys.tones, lanes)?;
+    put_lanes(sink, frame, options.first, &vcpus, palette, lanes)?;
+    put_legend(sink, frame, palette, lanes)?;
     write_all(sink, b"</svg>\n")
 }
 

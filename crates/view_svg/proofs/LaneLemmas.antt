@@ -3,10 +3,10 @@ use Rattle.std.proofs.Common.{arith, refl, ◌≡◌, ℕ, Bool, true, false, Li
 use Rattle.std.proofs.lemmas.Grind.{common_steps}
 use Rattle.std.specs.List.{list_any}
 use Rattle.std.specs.Prelude.{◌==◌}
-use Rattle.view_doc.specs.declared.view.Task.{Task}
+use Rattle.view_svg.specs.Drawings.{PaletteView}
 use Rattle.view_svg.specs.Lanes.{is_bar_of, vcpu_paths}
+use Rattle.view_svg.specs.declared.drawing.Band.{Band}
 use Rattle.view_lanes.specs.declared.frame.Bar.{Bar}
-use Rattle.view_lanes.specs.declared.frame.Frame.{Frame}
 
 -- without a bar there is none of a way of running
 no_way : (v : ℕ) (shared : Bool) (bars : List Bar) → list_any (λ (bar : Bar). bar.key == v) bars ≡ false
@@ -18,7 +18,6 @@ no_way v shared (bar ∷ bars) none =
     grind (arith, common_steps, one, no_way v shared bars rest)
 
 -- without a bar there is no path
-pub no_paths : (f : Frame) (y high : ℕ) (names : List (List ℕ)) (tasks : List Task) (colours : List ℕ)
-    (bars : List Bar) (v : ℕ) → list_any (λ (bar : Bar). bar.key == v) bars ≡ false
-    → vcpu_paths f y high names tasks colours bars v ≡ []
-no_paths f y high names tasks colours bars v none = rw (no_way v false bars none, no_way v true bars none) refl
+pub no_paths : (b : Band) (p : PaletteView) (bars : List Bar) (v : ℕ)
+    → list_any (λ (bar : Bar). bar.key == v) bars ≡ false → vcpu_paths b p bars v ≡ []
+no_paths b p bars v none = rw (no_way v false bars none, no_way v true bars none) refl

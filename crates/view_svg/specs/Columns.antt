@@ -1,12 +1,12 @@
 -- A lane of many bars is drawn as 200 columns: in each the vCPUs are upon each other by number, each as high
 -- as its part of the column's ticks.
-use Rattle.std.specs.Prelude.{ℕ, ◌+◌, ◌-◌, ◌*◌, ◌/◌, ◌==◌, nat_lt, List, [], if◌then◌else◌, length, slice_index, slice_get}
+use Rattle.std.specs.Prelude.{ℕ, ◌+◌, ◌-◌, ◌*◌, ◌/◌, ◌==◌, nat_lt, List, [], if◌then◌else◌, length, slice_index}
 use Rattle.std.specs.List.{list_any}
 use Rattle.tab_words.specs.Texts.{texts_below}
-use Rattle.vcpu_names.specs.Names.{name_at}
-use Rattle.view_doc.specs.declared.view.Task.{Task}
-use Rattle.view_svg.specs.Lanes.{note_of, titled_path}
+use Rattle.view_svg.specs.Drawings.{PaletteView}
+use Rattle.view_svg.specs.Lanes.{key_note, titled_path}
 use Rattle.view_svg.specs.Marks.{box_path}
+use Rattle.view_svg.specs.declared.drawing.Band.{Band}
 use Rattle.view_lanes.specs.Columns.{column_ticks, width_at}
 use Rattle.view_lanes.specs.declared.frame.Bar.{Bar}
 use Rattle.view_lanes.specs.declared.frame.Frame.{Frame}
@@ -21,19 +21,17 @@ level_box foot low top j =
     if nat_lt low top then box_path (9400 + j * 513) (foot - top) (9400 + j * 513 + 513) (foot - low) else []
 
 -- the box of a vCPU's ticks in the column of a number: from the level of the lower vCPUs to its own
-abbrev pub column_box : Frame → ℕ → ℕ → List Bar → ℕ → ℕ → List ℕ
-column_box f y high bars v j =
-    level_box (y + high) (level_of f high bars v j) (level_of f high bars (v + 1) j) j
+abbrev pub column_box : Band → List Bar → ℕ → ℕ → List ℕ
+column_box b bars v j =
+    level_box (b.y + b.high) (level_of b.frame b.high bars v j) (level_of b.frame b.high bars (v + 1) j) j
 
 -- a vCPU's path of boxes in columns, if it has a bar
-abbrev pub column_path : Frame → ℕ → ℕ → List (List ℕ) → List Task → List ℕ → List Bar → ℕ → List ℕ
-column_path f y high names tasks colours bars v =
+abbrev pub column_path : Band → PaletteView → List Bar → ℕ → List ℕ
+column_path b p bars v =
     if list_any (λ bar. bar.key == v) bars
-    then titled_path (slice_index colours v) [] (texts_below (column_box f y high bars v) 200)
-    (note_of f (name_at names v) (slice_get tasks v)) []
+    then titled_path (slice_index p.colours v) [] (texts_below (column_box b bars v) 200) (key_note b.frame p v) []
     else []
 
 -- a lane that is drawn in columns: a path for each key that has a bar there
-abbrev pub columns_text : Frame → ℕ → ℕ → List (List ℕ) → List Task → List ℕ → List Bar → List ℕ
-columns_text f y high names tasks colours bars =
-    texts_below (column_path f y high names tasks colours bars) (length names)
+abbrev pub columns_text : Band → PaletteView → List Bar → List ℕ
+columns_text b p bars = texts_below (column_path b p bars) (length p.names)

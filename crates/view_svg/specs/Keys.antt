@@ -4,9 +4,10 @@ use Rattle.std.specs.Prelude.{ℕ, zero, suc, ◌+◌, ◌-◌, ◌*◌, ◌/◌
 use Rattle.std.specs.List.{list_any}
 use Rattle.tab_words.specs.Texts.{texts_below}
 use Rattle.vcpu_names.specs.Names.{name_at}
+use Rattle.view_svg.specs.Drawings.{PaletteView}
 use Rattle.view_svg.specs.Marks.{short_back, short_dots, short_front}
+use Rattle.view_svg.specs.declared.drawing.Band.{Band}
 use Rattle.view_lanes.specs.declared.frame.Bar.{Bar}
-use Rattle.view_lanes.specs.declared.frame.Frame.{Frame}
 
 -- ---- who is listed
 
@@ -72,17 +73,16 @@ key_mark x top colour name = key_box colour x top
     ++ key_name (x + 1200) (top + 700) (short_front name) (short_dots name) (short_back name)
 
 -- the key of a number that has bars is in the place of a number, if that one is among those that are listed
-abbrev pub key_entry : Bool → ℕ → List (List ℕ) → List ℕ → ℕ → Bool → ℕ → ℕ → List ℕ
-key_entry by_vcpu y names colours listed false k v = []
-key_entry by_vcpu y names colours listed true k v =
+abbrev pub key_entry : Band → PaletteView → ℕ → Bool → ℕ → ℕ → List ℕ
+key_entry b p listed false k v = []
+key_entry b p listed true k v =
     if nat_lt k listed
-    then key_mark (key_x by_vcpu k) (key_top by_vcpu y k) (slice_index colours v) (name_at names v)
+    then key_mark (key_x b.frame.by_vcpu k) (key_top b.frame.by_vcpu b.y k) (slice_index p.colours v) (name_at p.names v)
     else []
 
 -- the key of this number, if it has a bar on the lane and is one of those that are listed
-abbrev pub key_at : Bool → ℕ → List (List ℕ) → List ℕ → List Bar → ℕ → ℕ → List ℕ
-key_at by_vcpu y names colours bars listed v =
-    key_entry by_vcpu y names colours listed (has_bar bars v) (count_below (has_bar bars) v) v
+abbrev pub key_at : Band → PaletteView → List Bar → ℕ → ℕ → List ℕ
+key_at b p bars listed v = key_entry b p listed (has_bar bars v) (count_below (has_bar bars) v) v
 
 -- how many aren't listed, if some aren't
 unfoldable pub more_text : ℕ → ℕ → ℕ → List ℕ
@@ -90,18 +90,18 @@ more_text x y more = codes "<text x=\"" ++ (decimal x ++ (codes "\" y=\"" ++ (de
     ++ (codes "\" font-size=\"800\" class=\"dim\">" ++ (decimal more ++ codes " more</text>\n")))))
 
 -- how many keys aren't listed of so many, in the last place, if some aren't
-abbrev pub more_at : Bool → ℕ → ℕ → ℕ → List ℕ
-more_at by_vcpu y listed count =
-    if nat_lt listed count then more_text (key_x by_vcpu listed) (key_top by_vcpu y listed + 700) (count - listed)
+abbrev pub more_at : Band → ℕ → ℕ → List ℕ
+more_at b listed count =
+    if nat_lt listed count
+    then more_text (key_x b.frame.by_vcpu listed) (key_top b.frame.by_vcpu b.y listed + 700) (count - listed)
     else []
 
 -- the key of a lane on which so many have bars, of whom so many are listed
-abbrev pub keys_of : Bool → ℕ → List (List ℕ) → List ℕ → List Bar → ℕ → ℕ → List ℕ
-keys_of by_vcpu y names colours bars listed count =
-    texts_below (key_at by_vcpu y names colours bars listed) (length names) ++ more_at by_vcpu y listed count
+abbrev pub keys_of : Band → PaletteView → List Bar → ℕ → ℕ → List ℕ
+keys_of b p bars listed count = texts_below (key_at b p bars listed) (length p.names) ++ more_at b listed count
 
--- the keys of a lane that begins there and is so high, as many as have places beside it
-abbrev pub keys_text : Frame → ℕ → ℕ → List (List ℕ) → List ℕ → List Bar → List ℕ
-keys_text f y high names colours bars = keys_of f.by_vcpu y names colours bars
-    (listed_of (key_room f.by_vcpu high) (count_below (has_bar bars) (length names)))
-    (count_below (has_bar bars) (length names))
+-- the keys of a lane, as many as have places beside it
+abbrev pub keys_text : Band → PaletteView → List Bar → List ℕ
+keys_text b p bars = keys_of b p bars
+    (listed_of (key_room b.frame.by_vcpu b.high) (count_below (has_bar bars) (length p.names)))
+    (count_below (has_bar bars) (length p.names))

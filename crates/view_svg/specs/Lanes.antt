@@ -6,11 +6,13 @@ use Rattle.tab_core.specs.declared.TheConstants.{ROUND}
 use Rattle.tab_words.specs.Texts.{texts_below}
 use Rattle.vcpu_names.specs.Names.{name_at}
 use Rattle.view_doc.specs.declared.view.Task.{Task}
-use Rattle.view_table.specs.declared.figures.Figures.{Figures}
+use Rattle.view_svg.specs.Drawings.{PaletteView, VcpusView}
 use Rattle.view_svg.specs.Frames.{letters_of, right_end, x_at}
 use Rattle.view_svg.specs.Joined.{boxes_of, seams_of}
 use Rattle.view_svg.specs.Marks.{box_path, short_back, short_dots, short_front}
-use Rattle.view_lanes.specs.Amounts.{tenths_ms}
+use Rattle.view_svg.specs.declared.drawing.Band.{Band}
+use Rattle.view_lanes.specs.Amounts.{per_mille, tenths_ms}
+use Rattle.view_lanes.specs.Shown.{held_in}
 use Rattle.view_lanes.specs.declared.frame.Bar.{Bar}
 use Rattle.view_lanes.specs.declared.frame.Frame.{Frame}
 
@@ -29,12 +31,13 @@ top_in y high false = y
 top_in y high true = y + high * 2 / 5
 
 -- the box of a bar
-abbrev pub bar_box : Frame → ℕ → ℕ → Bar → List ℕ
-bar_box f y high bar = box_path (x_at f bar.from) (top_in y high bar.shared) (x_at f bar.end) (y + high)
+abbrev pub bar_box : Band → Bar → List ℕ
+bar_box b bar =
+    box_path (x_at b.frame bar.from) (top_in b.y b.high bar.shared) (x_at b.frame bar.end) (b.y + b.high)
 
 -- the box of a bar that is this vCPU's
-abbrev pub box_of : Frame → ℕ → ℕ → ℕ → Bool → Bar → List ℕ
-box_of f y high v shared bar = if is_bar_of v shared bar then bar_box f y high bar else []
+abbrev pub box_of : Band → ℕ → Bool → Bar → List ℕ
+box_of b v shared bar = if is_bar_of v shared bar then bar_box b bar else []
 
 -- what is said of a vCPU: its name, and what its reservation is, in tenths of a millisecond
 unfoldable pub task_note : List ℕ → ℕ → ℕ → ℕ → List ℕ
@@ -51,6 +54,10 @@ key_word true = codes "core "
 abbrev pub note_of : Frame → List ℕ → Option Task → List ℕ
 note_of f name None = key_word f.by_vcpu ++ name
 note_of f name (Some t) = task_note name t.home (tenths_ms f.tick t.cost) (tenths_ms f.tick t.period)
+
+-- what is said of the key of a number
+abbrev pub key_note : Frame → PaletteView → ℕ → List ℕ
+key_note f p v = note_of f (name_at p.names v) (slice_get p.tasks v)
 
 -- the class of boxes of this way of running
 abbrev pub way_class : Bool → List ℕ
@@ -75,26 +82,26 @@ abbrev pub titled_path : ℕ → List ℕ → List ℕ → List ℕ → List ℕ
 titled_path colour class boxes note word = path_begin colour class ++ (boxes ++ path_end note word)
 
 -- a vCPU's path of one way of running, if it has a bar
-abbrev pub vcpu_path : Frame → ℕ → ℕ → List (List ℕ) → List Task → List ℕ → List Bar → Bool → ℕ → List ℕ
-vcpu_path f y high names tasks colours bars shared v =
+abbrev pub vcpu_path : Band → PaletteView → List Bar → Bool → ℕ → List ℕ
+vcpu_path b p bars shared v =
     if list_any (is_bar_of v shared) bars
-    then titled_path (slice_index colours v) (way_class shared) (flat_map (box_of f y high v shared) bars)
-    (note_of f (name_at names v) (slice_get tasks v)) (way_word shared)
+    then titled_path (slice_index p.colours v) (way_class shared) (flat_map (box_of b v shared) bars)
+    (key_note b.frame p v) (way_word shared)
     else []
 
 -- the paths of a vCPU, of its slots first
-abbrev pub vcpu_paths : Frame → ℕ → ℕ → List (List ℕ) → List Task → List ℕ → List Bar → ℕ → List ℕ
-vcpu_paths f y high names tasks colours bars v = vcpu_path f y high names tasks colours bars false v
-    ++ vcpu_path f y high names tasks colours bars true v
+abbrev pub vcpu_paths : Band → PaletteView → List Bar → ℕ → List ℕ
+vcpu_paths b p bars v = vcpu_path b p bars false v ++ vcpu_path b p bars true v
 
 -- a line from the top of a lane to its foot
 unfoldable pub cut_line : ℕ → ℕ → ℕ → List ℕ
 cut_line x y high = codes "M" ++ (decimal x ++ (codes " " ++ (decimal y ++ (codes "V" ++ decimal (y + high)))))
 
 -- a line where this bar begins, if it is wide enough to bear one
-abbrev pub bar_cut : Frame → ℕ → ℕ → Bar → List ℕ
-bar_cut f y high bar =
-    if nat_le (x_at f bar.from + 300) (x_at f bar.end) then cut_line (x_at f bar.from) y high else []
+abbrev pub bar_cut : Band → Bar → List ℕ
+bar_cut b bar =
+    if nat_le (x_at b.frame bar.from + 300) (x_at b.frame bar.end) then cut_line (x_at b.frame bar.from) b.y b.high
+    else []
 
 -- a name around a point
 unfoldable pub name_text : ℕ → ℕ → List ℕ → List ℕ
@@ -110,11 +117,11 @@ abbrev pub line_in : ℕ → ℕ → ℕ → ℕ
 line_in y high letters = y + high / 2 + letters * 35 / 100
 
 -- the name of a bar's key in the middle of the bar, if the bar is as wide as the name
-abbrev pub bar_name : Frame → ℕ → ℕ → List (List ℕ) → Bar → List ℕ
-bar_name f y high names bar =
-    if nat_le (x_at f bar.from + width_of (letters_of high) (name_at names bar.key)) (x_at f bar.end)
-    then name_text ((x_at f bar.from + x_at f bar.end) / 2)
-    (line_in (top_in y high bar.shared) (y + high - top_in y high bar.shared) (letters_of high))
+abbrev pub bar_name : Band → List (List ℕ) → Bar → List ℕ
+bar_name b names bar =
+    if nat_le (x_at b.frame bar.from + width_of (letters_of b.high) (name_at names bar.key)) (x_at b.frame bar.end)
+    then name_text ((x_at b.frame bar.from + x_at b.frame bar.end) / 2)
+    (line_in (top_in b.y b.high bar.shared) (b.y + b.high - top_in b.y b.high bar.shared) (letters_of b.high))
     (name_at names bar.key)
     else []
 
@@ -124,21 +131,20 @@ names_begin letters = codes "\"/>\n<g class=\"name on\" text-anchor=\"middle\" f
     ++ codes "\">\n")
 
 -- a thin line where each of these bars begins, if there are any
-abbrev pub seams_text : Frame → ℕ → ℕ → List Bar → List ℕ
-seams_text f y high seams =
+abbrev pub seams_text : Band → List Bar → List ℕ
+seams_text b seams =
     if length seams == 0 then []
-    else codes "<path class=\"seam\" d=\"" ++ (flat_map (bar_cut f y high) seams ++ codes "\"/>\n")
+    else codes "<path class=\"seam\" d=\"" ++ (flat_map (bar_cut b) seams ++ codes "\"/>\n")
 
 -- a line where each of these boxes begins, and their names
-abbrev pub box_marks_text : Frame → ℕ → ℕ → List (List ℕ) → List Bar → List ℕ
-box_marks_text f y high names boxes = codes "<path class=\"cut\" d=\"" ++ (flat_map (bar_cut f y high) boxes
-    ++ (names_begin (letters_of high) ++ (flat_map (bar_name f y high names) boxes ++ codes "</g>\n")))
+abbrev pub box_marks_text : Band → List (List ℕ) → List Bar → List ℕ
+box_marks_text b names boxes = codes "<path class=\"cut\" d=\"" ++ (flat_map (bar_cut b) boxes
+    ++ (names_begin (letters_of b.high) ++ (flat_map (bar_name b names) boxes ++ codes "</g>\n")))
 
 -- the bars of a lane as boxes, a thin line where a bar begins in a box, and the lines and names of the boxes
-abbrev pub bars_text : Frame → ℕ → ℕ → List (List ℕ) → List Task → List ℕ → List Bar → List ℕ
-bars_text f y high names tasks colours bars =
-    texts_below (vcpu_paths f y high names tasks colours (boxes_of f bars)) (length names)
-    ++ (seams_text f y high (seams_of f bars) ++ box_marks_text f y high names (boxes_of f bars))
+abbrev pub bars_text : Band → PaletteView → List Bar → List ℕ
+bars_text b p bars = texts_below (vcpu_paths b p (boxes_of b.frame bars)) (length p.names)
+    ++ (seams_text b (seams_of b.frame bars) ++ box_marks_text b p.names (boxes_of b.frame bars))
 
 -- the ground of a lane
 abbrev pub ground_box : ℕ → ℕ → ℕ → List ℕ
@@ -172,10 +178,11 @@ vcpu_label name y front dots back = codes "<g><title>" ++ (name ++ (codes "</tit
 abbrev pub lane_vcpu_text : List ℕ → ℕ → ℕ → List ℕ
 lane_vcpu_text name y high = vcpu_label name (line_in y high 900) (short_front name) (short_dots name) (short_back name)
 
--- what is left of the lane of a core or a vCPU
-abbrev pub label_text : Bool → List (List ℕ) → ℕ → ℕ → ℕ → ℕ → List ℕ
-label_text false labels row y high share = core_text row y high share
-label_text true labels row y high share = lane_vcpu_text (name_at labels row) y high
+-- what is left of the lane of a core, of which these bars have so much, or of a vCPU, which has one of these names
+abbrev pub label_text : Band → List (List ℕ) → ℕ → List Bar → List ℕ
+label_text b names row bars =
+    if b.frame.by_vcpu then lane_vcpu_text (name_at names row) b.y b.high
+    else core_text row b.y b.high (per_mille (held_in b.frame bars) (b.frame.to - b.frame.from))
 
 -- ---- the longest wait
 
@@ -225,31 +232,30 @@ abbrev pub wait_note : ℕ → ℕ → ℕ → Option ℕ → List ℕ
 wait_note tick y wait promise =
     wait_label y (wait_class (is_late tick wait promise)) (tenths_ms tick wait) ++ wait_end promise
 
--- from one tick of two rounds to another: the part in the first round, and that in the second, each where its round
--- is
-unfoldable pub wait_at : Frame → ℕ → ℕ → ℕ → ℕ → ℕ → Option ℕ → List ℕ
-wait_at f y begin mark line wait promise = codes "<path class=\"wait\" d=\"" ++ (wait_part f y begin (min mark ROUND)
-    ++ (wait_part f y (begin - ROUND) (mark - ROUND) ++ wait_note f.tick line wait promise))
+-- a wait of so many ticks that ends at a tick of two rounds: the part in the first round, and that in the second, each
+-- where its round is
+unfoldable pub wait_at : Frame → ℕ → ℕ → ℕ → ℕ → Option ℕ → List ℕ
+wait_at f y line wait mark promise = codes "<path class=\"wait\" d=\"" ++ (wait_part f y (mark - wait) (min mark ROUND)
+    ++ (wait_part f y (mark - wait - ROUND) (mark - ROUND) ++ wait_note f.tick line wait promise))
 
 -- a wait of so many ticks that ends at a tick
-abbrev pub wait_text : Frame → ℕ → ℕ → ℕ → ℕ → Option ℕ → List ℕ
-wait_text f y high wait mark promise =
-    wait_at f (y + high / 2) (mark - wait) mark (line_in y high 800) wait promise
+abbrev pub wait_text : Band → ℕ → ℕ → Option ℕ → List ℕ
+wait_text b wait mark promise = wait_at b.frame (b.y + b.high / 2) (line_in b.y b.high 800) wait mark promise
 
 -- the longest wait of a vCPU on its lane, if its end is known
-abbrev pub longest_wait_text : Frame → ℕ → ℕ → ℕ → Option ℕ → Option ℕ → List ℕ
-longest_wait_text f y high wait None promise = []
-longest_wait_text f y high wait (Some mark) promise = wait_text f y high wait mark promise
+abbrev pub longest_wait_text : Band → ℕ → Option ℕ → Option ℕ → List ℕ
+longest_wait_text b wait None promise = []
+longest_wait_text b wait (Some mark) promise = wait_text b wait mark promise
 
 -- the longest wait on a vCPU's lane, if its length and its end are known
-abbrev pub marked_text : Frame → ℕ → ℕ → Option ℕ → Option ℕ → Option ℕ → List ℕ
-marked_text f y high None mark promise = []
-marked_text f y high (Some wait) mark promise = longest_wait_text f y high wait mark promise
+abbrev pub marked_text : Band → Option ℕ → Option ℕ → Option ℕ → List ℕ
+marked_text b None mark promise = []
+marked_text b (Some wait) mark promise = longest_wait_text b wait mark promise
 
 -- the longest wait of this vCPU on its lane, in a picture of a plan by vCPU
-abbrev pub lane_waits_text : Frame → ℕ → ℕ → Figures → List (Option ℕ) → ℕ → List ℕ
-lane_waits_text f y high figures promises v =
-    if f.by_vcpu && not f.is_run
-    then marked_text f y high (slice_get figures.waits.items v) (slice_get figures.marks.items v)
-    (slice_index_or promises v None)
+abbrev pub lane_waits_text : Band → VcpusView → ℕ → List ℕ
+lane_waits_text b of v =
+    if b.frame.by_vcpu && not b.frame.is_run
+    then marked_text b (slice_get of.figures.waits.items v) (slice_get of.figures.marks.items v)
+    (slice_index_or of.promises v None)
     else []

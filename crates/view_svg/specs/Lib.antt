@@ -1,5 +1,6 @@
 pub mod Boxed
 pub mod Columns
+pub mod Drawings
 pub mod Frames
 pub mod Inside
 pub mod Joined

@@ -1,46 +1,37 @@
-ghost use Rattle.std.specs.Prelude.{◌≡◌, ◌<◌, ◌≤◌, ◌+◌, ◌==◌, ◌*◌, ◌/◌, ◌^◌, [], length, slice_get};
+ghost use Rattle.std.specs.Prelude.{◌≡◌, ◌<◌, ◌≤◌, ◌+◌, ◌==◌, ◌*◌, ◌/◌, ◌^◌, [], length, slice_index};
 ghost use Rattle.std.specs.List.{list_any};
-ghost use Rattle.tab_core.specs.declared.TheConstants.{MAX_VCPUS};
 ghost use Rattle.tab_io.specs.Sinks.{Writes};
 ghost use Rattle.tab_words.specs.Texts.{texts_below};
 ghost use Rattle.view_svg.specs.Columns.{column_box, column_path, columns_text, level_box};
+ghost use Rattle.view_svg.specs.Drawings.{IsInPicture, palette_view};
 ghost use Rattle.view_svg.specs.Inside.Filling.{AreTicksBelow};
-ghost use Rattle.view_svg.specs.Lanes.{note_of, titled_path};
+ghost use Rattle.view_svg.specs.Lanes.{key_note, titled_path};
 
+use crate::drawing::{Band, Palette};
 use crate::holders::holders_of;
 use crate::levels::add_bars;
 use crate::marks::put_box;
 use crate::paths::{put_path_begin, put_path_end};
-use tab_core::{Name, VcpuNo};
+use tab_core::VcpuNo;
 use tab_io::{Sink, WriteFault};
-use view_doc::Task;
-use view_lanes::{Bar, Frame, name_at, width_at};
+use view_lanes::{Bar, width_at};
 
 // Writes the bars of a lane as columns.
 pub(crate) fn put_columns<K: Sink>(
     sink: &mut K,
-    frame: &Frame,
-    y: u32,
-    high: u32,
-    names: &[Name],
-    tasks: &[Task],
-    colours: &[u32],
+    band: &Band,
+    palette: &Palette<'_>,
     bars: &[Bar],
 ) -> Result<(), WriteFault>
-    requires few { length names.now ≤ length colours.now }
-    requires all { length names.now ≤ MAX_VCPUS }
-    requires low { y < 2 ^ 31 }
-    requires high { high ≤ 4000 }
+    requires band { IsInPicture band.now }
     ensures { Writes (K.state sink.old) (K.state sink.new)
-        (columns_text frame.now y high names.now tasks.now colours.now bars.now) result }
+        (columns_text band.now (palette_view palette.now) bars.now) result }
 {
     let holders = holders_of(bars);
     let mut ticks = [0u64; 200];
-    for v in 0..names.len() {
+    for v in 0..palette.names.len() {
         let held = holders.has(VcpuNo(v as u32));
-        put_column(
-            sink, frame, y, high, names, tasks, colours, bars, held, v, &mut ticks,
-        )?;
+        put_column(sink, band, palette, bars, held, v, &mut ticks)?;
     }
     Ok(())
 }
@@ -48,93 +39,69 @@ pub(crate) fn put_columns<K: Sink>(
 // Writes a vCPU's path of boxes in columns, if it has a bar, and adds its ticks to those of the lower ones.
 fn put_column<K: Sink>(
     sink: &mut K,
-    frame: &Frame,
-    y: u32,
-    high: u32,
-    names: &[Name],
-    tasks: &[Task],
-    colours: &[u32],
+    band: &Band,
+    palette: &Palette<'_>,
     bars: &[Bar],
     held: bool,
     v: usize,
     ticks: &mut [u64; 200],
 ) -> Result<(), WriteFault>
-    requires few { v < length colours.now }
-    requires low { y < 2 ^ 31 }
-    requires high { high ≤ 4000 }
+    requires few { v < length palette.now.colours.now }
+    requires band { IsInPicture band.now }
     requires held { held ≡ list_any (λ bar. bar.key == v) bars.now }
-    requires below { AreTicksBelow frame.now bars.now v ticks.old }
+    requires below { AreTicksBelow band.now.frame bars.now v ticks.old }
     ensures wrote { Writes (K.state sink.old) (K.state sink.new)
-        (column_path frame.now y high names.now tasks.now colours.now bars.now v) result }
-    ensures below { AreTicksBelow frame.now bars.now (v + 1) ticks.new }
+        (column_path band.now (palette_view palette.now) bars.now v) result }
+    ensures below { AreTicksBelow band.now.frame bars.now (v + 1) ticks.new }
 {
     if !held {
         return Ok(());
     }
     let below = *ticks;
-    add_bars(ticks, frame, 200, bars, v);
-    put_titled(
-        sink,
-        frame,
-        y,
-        high,
-        bars,
-        v,
-        colours[v],
-        name_at(names, v),
-        tasks,
-        &below,
-        ticks,
-    )
+    add_bars(ticks, &band.frame, 200, bars, v);
+    put_titled(sink, band, palette, bars, v, &below, ticks)
 }
 
 // Writes the path.
 fn put_titled<K: Sink>(
     sink: &mut K,
-    frame: &Frame,
-    y: u32,
-    high: u32,
+    band: &Band,
+    palette: &Palette<'_>,
     bars: &[Bar],
     v: usize,
-    colour: u32,
-    name: &[u8],
-    tasks: &[Task],
     below: &[u64; 200],
     with: &[u64; 200],
 ) -> Result<(), WriteFault>
-    requires low { y < 2 ^ 31 }
-    requires high { high ≤ 4000 }
-    requires below { AreTicksBelow frame.now bars.now v below.now }
-    requires with { AreTicksBelow frame.now bars.now (v + 1) with.now }
+    requires few { v < length palette.now.colours.now }
+    requires band { IsInPicture band.now }
+    requires below { AreTicksBelow band.now.frame bars.now v below.now }
+    requires with { AreTicksBelow band.now.frame bars.now (v + 1) with.now }
     ensures { Writes (K.state sink.old) (K.state sink.new)
-        (titled_path colour [] (texts_below (column_box frame.now y high bars.now v) 200)
-        (note_of frame.now name.now (slice_get tasks.now v)) []) result }
+        (titled_path (slice_index palette.now.colours.now v) [] (texts_below (column_box band.now bars.now v) 200)
+        (key_note band.now.frame (palette_view palette.now) v) []) result }
 {
-    put_path_begin(sink, colour, b"")?;
-    put_boxes(sink, frame, y, high, bars, v, below, with)?;
-    put_path_end(sink, frame, name, tasks, v, b"")
+    put_path_begin(sink, palette, v, b"")?;
+    put_boxes(sink, band, bars, v, below, with)?;
+    put_path_end(sink, &band.frame, palette, v, b"")
 }
 
 // Writes its boxes.
 fn put_boxes<K: Sink>(
     sink: &mut K,
-    frame: &Frame,
-    y: u32,
-    high: u32,
+    band: &Band,
     bars: &[Bar],
     v: usize,
     below: &[u64; 200],
     with: &[u64; 200],
 ) -> Result<(), WriteFault>
-    requires low { y < 2 ^ 31 }
-    requires high { high ≤ 4000 }
-    requires below { AreTicksBelow frame.now bars.now v below.now }
-    requires with { AreTicksBelow frame.now bars.now (v + 1) with.now }
+    requires band { IsInPicture band.now }
+    requires below { AreTicksBelow band.now.frame bars.now v below.now }
+    requires with { AreTicksBelow band.now.frame bars.now (v + 1) with.now }
     ensures { Writes (K.state sink.old) (K.state sink.new)
-        (texts_below (column_box frame.now y high bars.now v) 200) result }
+        (texts_below (column_box band.now bars.now v) 200) result }
 {
     for j in 0..200 {
-        put_column_box(sink, frame, y, high, bars, v, j, below, with)?;
+        put_column_box(sink, band, bars, v, j, below, with)?;
     }
     Ok(())
 }
@@ -142,29 +109,26 @@ fn put_boxes<K: Sink>(
 // Writes the box in the column of a number.
 fn put_column_box<K: Sink>(
     sink: &mut K,
-    frame: &Frame,
-    y: u32,
-    high: u32,
+    band: &Band,
     bars: &[Bar],
     v: usize,
     j: usize,
     below: &[u64; 200],
     with: &[u64; 200],
 ) -> Result<(), WriteFault>
-    requires low { y < 2 ^ 31 }
-    requires high { high ≤ 4000 }
+    requires band { IsInPicture band.now }
     requires there { j < 200 }
-    requires below { AreTicksBelow frame.now bars.now v below.now }
-    requires with { AreTicksBelow frame.now bars.now (v + 1) with.now }
+    requires below { AreTicksBelow band.now.frame bars.now v below.now }
+    requires with { AreTicksBelow band.now.frame bars.now (v + 1) with.now }
     ensures { Writes (K.state sink.old) (K.state sink.new)
-        (column_box frame.now y high bars.now v j) result }
+        (column_box band.now bars.now v j) result }
 {
-    let wide = width_at(frame, 200, j as u32);
+    let wide = width_at(&band.frame, 200, j as u32);
     put_level_box(
         sink,
-        y + high,
-        level_of(below[j], high, wide),
-        level_of(with[j], high, wide),
+        band.y + band.high,
+        level_of(below[j], band.high, wide),
+        level_of(with[j], band.high, wide),
         j as u32,
     )
 }

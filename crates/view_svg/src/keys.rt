@@ -3,49 +3,35 @@ ghost use Rattle.tab_core.specs.VcpuSets.{has_vcpu};
 ghost use Rattle.tab_core.specs.declared.TheConstants.{MAX_VCPUS};
 ghost use Rattle.tab_io.specs.Sinks.{Writes};
 ghost use Rattle.tab_words.specs.Texts.{texts_below};
+ghost use Rattle.view_svg.specs.Drawings.{IsInPicture, palette_view};
 ghost use Rattle.view_svg.specs.Inside.Holding.{AreHolders};
 ghost use Rattle.view_svg.specs.Marks.{short_back, short_dots, short_front};
 ghost use Rattle.view_svg.specs.Keys.{count_below, has_bar, key_at, key_box, key_entry, key_mark, key_name, key_room, key_top, key_x, keys_of, keys_text, lane_rows, listed_of, more_at, more_text};
 
+use crate::drawing::{Band, Palette};
 use crate::gather::put_at_once;
 use crate::holders::holders_of;
 use crate::marks::{short_back, short_dots, short_front};
-use tab_core::{Name, VcpuNo, VcpuSet};
+use tab_core::{VcpuNo, VcpuSet};
 use tab_io::{Sink, WriteFault};
 use tab_words::TextPiece;
-use view_lanes::{Bar, Frame, name_at};
+use view_lanes::{Bar, name_at};
 
 // Writes who has bars on a lane, right of it.
 pub(crate) fn put_keys<K: Sink>(
     sink: &mut K,
-    frame: &Frame,
-    y: u32,
-    high: u32,
-    names: &[Name],
-    colours: &[u32],
+    band: &Band,
+    palette: &Palette<'_>,
     bars: &[Bar],
 ) -> Result<(), WriteFault>
-    requires few { length names.now ≤ MAX_VCPUS }
-    requires coloured { length names.now ≤ length colours.now }
-    requires low { y < 2 ^ 31 }
-    requires high { high ≤ 4000 }
+    requires band { IsInPicture band.now }
     ensures { Writes (K.state sink.old) (K.state sink.new)
-        (keys_text frame.now y high names.now colours.now bars.now) result }
+        (keys_text band.now (palette_view palette.now) bars.now) result }
 {
     let holders = holders_of(bars);
-    let count = count_of(&holders, names.len(), bars);
-    let listed = listed_of(key_room(frame.by_vcpu, high), count);
-    put_keys_of(
-        sink,
-        frame.by_vcpu,
-        y,
-        names,
-        colours,
-        bars,
-        &holders,
-        listed,
-        count,
-    )
+    let count = count_of(&holders, palette.names.len(), bars);
+    let listed = listed_of(key_room(band.frame.by_vcpu, band.high), count);
+    put_keys_of(sink, band, palette, bars, &holders, listed, count)
 }
 
 // How many of the first numbers have a bar.
@@ -140,51 +126,41 @@ fn key_top(by_vcpu: bool, y: u32, k: u32) -> u32
 // Writes so many of those that have bars, and how many more there are.
 fn put_keys_of<K: Sink>(
     sink: &mut K,
-    by_vcpu: bool,
-    y: u32,
-    names: &[Name],
-    colours: &[u32],
+    band: &Band,
+    palette: &Palette<'_>,
     bars: &[Bar],
     holders: &VcpuSet,
     listed: u32,
     count: u32,
 ) -> Result<(), WriteFault>
-    requires few { length names.now ≤ MAX_VCPUS }
-    requires coloured { length names.now ≤ length colours.now }
     requires holders { AreHolders holders.now bars.now }
-    requires low { y < 2 ^ 31 }
+    requires low { band.now.y < 2 ^ 31 }
     requires listed { listed ≤ 24 }
     ensures { Writes (K.state sink.old) (K.state sink.new)
-        (keys_of by_vcpu y names.now colours.now bars.now listed count) result }
+        (keys_of band.now (palette_view palette.now) bars.now listed count) result }
 {
-    put_entries(sink, by_vcpu, y, names, colours, bars, holders, listed)?;
-    put_more(sink, by_vcpu, y, listed, count)
+    put_entries(sink, band, palette, bars, holders, listed)?;
+    put_more(sink, band, listed, count)
 }
 
 fn put_entries<K: Sink>(
     sink: &mut K,
-    by_vcpu: bool,
-    y: u32,
-    names: &[Name],
-    colours: &[u32],
+    band: &Band,
+    palette: &Palette<'_>,
     bars: &[Bar],
     holders: &VcpuSet,
     listed: u32,
 ) -> Result<(), WriteFault>
-    requires few { length names.now ≤ MAX_VCPUS }
-    requires coloured { length names.now ≤ length colours.now }
     requires holders { AreHolders holders.now bars.now }
-    requires low { y < 2 ^ 31 }
+    requires low { band.now.y < 2 ^ 31 }
     requires listed { listed ≤ 24 }
     ensures { Writes (K.state sink.old) (K.state sink.new)
-        (texts_below (key_at by_vcpu y names.now colours.now bars.now listed) (length names.now)) result }
+        (texts_below (key_at band.now (palette_view palette.now) bars.now listed) (length palette.now.names.now)) result }
 {
     let mut place = 0;
-    for v in 0..names.len() {
+    for v in 0..palette.names.len() {
         let held = holders.has(VcpuNo(v as u32));
-        put_entry(
-            sink, by_vcpu, y, names, colours, bars, listed, held, place, v,
-        )?;
+        put_entry(sink, band, palette, listed, held, place, v)?;
         place = next_place(place, held);
     }
     Ok(())
@@ -193,23 +169,18 @@ fn put_entries<K: Sink>(
 // Writes the key of a number in a place, if it has bars and the place is among those that are listed.
 fn put_entry<K: Sink>(
     sink: &mut K,
-    by_vcpu: bool,
-    y: u32,
-    names: &[Name],
-    colours: &[u32],
-    bars: &[Bar],
+    band: &Band,
+    palette: &Palette<'_>,
     listed: u32,
     held: bool,
     place: u32,
     v: usize,
 ) -> Result<(), WriteFault>
-    requires coloured { v < length colours.now }
-    requires held { held ≡ has_bar bars.now v }
-    requires place { place ≡ count_below (has_bar bars.now) v }
-    requires low { y < 2 ^ 31 }
+    requires coloured { v < length palette.now.colours.now }
+    requires low { band.now.y < 2 ^ 31 }
     requires listed { listed ≤ 24 }
     ensures { Writes (K.state sink.old) (K.state sink.new)
-        (key_at by_vcpu y names.now colours.now bars.now listed v) result }
+        (key_entry band.now (palette_view palette.now) listed held place v) result }
 {
     if !held {
         return Ok(());
@@ -217,10 +188,10 @@ fn put_entry<K: Sink>(
     if place < listed {
         put_mark(
             sink,
-            key_x(by_vcpu, place),
-            key_top(by_vcpu, y, place),
-            colours[v],
-            name_at(names, v),
+            key_x(band.frame.by_vcpu, place),
+            key_top(band.frame.by_vcpu, band.y, place),
+            palette.colours[v],
+            name_at(palette.names, v),
         )
     } else {
         Ok(())
@@ -303,20 +274,15 @@ fn put_name<'a, K: Sink>(
 }
 
 // Writes how many aren't listed, if some aren't.
-fn put_more<K: Sink>(
-    sink: &mut K,
-    by_vcpu: bool,
-    y: u32,
-    listed: u32,
-    count: u32,
-) -> Result<(), WriteFault>
-    requires low { y < 2 ^ 31 }
+fn put_more<K: Sink>(sink: &mut K, band: &Band, listed: u32, count: u32) -> Result<(), WriteFault>
+    requires low { band.now.y < 2 ^ 31 }
     requires listed { listed ≤ 24 }
-    ensures { Writes (K.state sink.old) (K.state sink.new) (more_at by_vcpu y listed count) result }
+    ensures { Writes (K.state sink.old) (K.state sink.new) (more_at band.now listed count) result }
 {
     if listed < count {
-        let top = key_top(by_vcpu, y, listed);
-        put_more_of(sink, key_x(by_vcpu, listed), top + 700, count - listed)
+        let top = key_top(band.frame.by_vcpu, band.y, listed);
+        let x = key_x(band.frame.by_vcpu, listed);
+        put_more_of(sink, x, top + 700, count - listed)
     } else {
         Ok(())
     }

@@ -1,33 +1,32 @@
 ghost use Rattle.std.specs.Prelude.{◌<◌, ◌≤◌, ◌+◌, ◌-◌, ◌/◌, ◌^◌, ◌++◌};
 ghost use Rattle.tab_io.specs.Sinks.{Writes};
+ghost use Rattle.view_svg.specs.Drawings.{IsInPicture};
 ghost use Rattle.view_svg.specs.Lanes.{core_label, core_text, label_text, lane_vcpu_text, share_label, vcpu_label};
 
+use crate::drawing::Band;
 use crate::lane::line_in;
 use crate::marks::{short_back, short_dots, short_front};
 use tab_core::Name;
 use tab_io::{Sink, WriteFault};
 use tab_words::{TextPiece, put_pieces};
-use view_lanes::name_at;
+use view_lanes::{Bar, held_in, name_at, per_mille, span_of};
 
 // Writes what is left of the lane of a core or a vCPU.
 pub(crate) fn put_label<K: Sink>(
     sink: &mut K,
-    by_vcpu: bool,
-    labels: &[Name],
+    band: &Band,
+    names: &[Name],
     row: u64,
-    y: u32,
-    high: u32,
-    share: u64,
+    bars: &[Bar],
 ) -> Result<(), WriteFault>
-    requires low { y < 2 ^ 31 }
-    requires high { high ≤ 4000 }
-    ensures { Writes (K.state sink.old) (K.state sink.new)
-        (label_text by_vcpu labels.now row y high share) result }
+    requires band { IsInPicture band.now }
+    ensures { Writes (K.state sink.old) (K.state sink.new) (label_text band.now names.now row bars.now) result }
 {
-    if by_vcpu {
-        put_vcpu(sink, name_at(labels, row as usize), y, high)
+    if band.frame.by_vcpu {
+        put_vcpu(sink, name_at(names, row as usize), band.y, band.high)
     } else {
-        put_core_text(sink, row, y, high, share)
+        let share = per_mille(held_in(&band.frame, bars), u64::from(span_of(&band.frame)));
+        put_core_text(sink, row, band.y, band.high, share)
     }
 }
 

@@ -5,6 +5,7 @@
 #![tactic(auto)]
 
 mod columns;
+mod drawing;
 mod gather;
 mod holders;
 mod joined;
@@ -19,6 +20,7 @@ mod paths;
 mod places;
 mod waits;
 
+pub use drawing::{Band, Palette, Vcpus};
 pub use holders::holders_in;
 pub use keys::{count_below, next_place};
 pub use lane_picture::put_lane;

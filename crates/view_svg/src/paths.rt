@@ -1,19 +1,29 @@
-ghost use Rattle.std.specs.Prelude.{◌≡◌, ◌++◌, slice_get};
+ghost use Rattle.std.specs.Prelude.{◌≡◌, ◌<◌, ◌++◌, length, slice_index};
 ghost use Rattle.tab_io.specs.Sinks.{Writes};
-ghost use Rattle.view_svg.specs.Lanes.{key_word, note_of, path_begin, path_end, task_note};
+ghost use Rattle.view_svg.specs.Drawings.{palette_view};
+ghost use Rattle.view_svg.specs.Lanes.{key_note, key_word, path_begin, path_end, task_note};
 
+use crate::drawing::Palette;
 use tab_io::{Sink, WriteFault, write_all};
 use tab_words::{TextPiece, put_pieces};
-use view_doc::Task;
-use view_lanes::{Frame, tenths_ms};
+use view_lanes::{Frame, name_at, tenths_ms};
 
-// Writes where the path of a vCPU begins.
-#[tactic(auto, unfolding(crate::specs::Lanes::path_begin))]
+// Writes where the path of a key begins.
 pub(crate) fn put_path_begin<K: Sink>(
     sink: &mut K,
-    colour: u32,
+    palette: &Palette<'_>,
+    v: usize,
     class: &[u8],
 ) -> Result<(), WriteFault>
+    requires { v < length palette.now.colours.now }
+    ensures { Writes (K.state sink.old) (K.state sink.new)
+        (path_begin (slice_index palette.now.colours.now v) class.now) result }
+{
+    put_begin(sink, palette.colours[v], class)
+}
+
+#[tactic(auto, unfolding(crate::specs::Lanes::path_begin))]
+fn put_begin<K: Sink>(sink: &mut K, colour: u32, class: &[u8]) -> Result<(), WriteFault>
     ensures { Writes (K.state sink.old) (K.state sink.new) (path_begin colour class.now) result }
 {
     put_pieces(
@@ -31,31 +41,30 @@ pub(crate) fn put_path_begin<K: Sink>(
 pub(crate) fn put_path_end<K: Sink>(
     sink: &mut K,
     frame: &Frame,
-    name: &[u8],
-    tasks: &[Task],
+    palette: &Palette<'_>,
     v: usize,
     word: &[u8],
 ) -> Result<(), WriteFault>
     ensures { Writes (K.state sink.old) (K.state sink.new)
-        (path_end (note_of frame.now name.now (slice_get tasks.now v)) word.now) result }
+        (path_end (key_note frame.now (palette_view palette.now) v) word.now) result }
 {
     write_all(sink, b"\"><title>")?;
-    put_note(sink, frame, name, tasks, v)?;
+    put_note(sink, frame, palette, v)?;
     write_all(sink, word)?;
     write_all(sink, b"</title></path>\n")
 }
 
-// Writes what is said of a vCPU.
+// Writes what is said of a key.
 fn put_note<K: Sink>(
     sink: &mut K,
     frame: &Frame,
-    name: &[u8],
-    tasks: &[Task],
+    palette: &Palette<'_>,
     v: usize,
 ) -> Result<(), WriteFault>
-    ensures { Writes (K.state sink.old) (K.state sink.new) (note_of frame.now name.now (slice_get tasks.now v)) result }
+    ensures { Writes (K.state sink.old) (K.state sink.new) (key_note frame.now (palette_view palette.now) v) result }
 {
-    match tasks.get(v) {
+    let name = name_at(palette.names, v);
+    match palette.tasks.get(v) {
         Some(task) => put_task_note(
             sink,
             name,

@@ -1,41 +1,37 @@
-ghost use Rattle.std.specs.Prelude.{◌<◌, ◌≤◌, ◌-◌, ◌^◌, ◌≡◌, None, min, slice_get, slice_index_or};
+ghost use Rattle.std.specs.Prelude.{◌<◌, ◌-◌, ◌≡◌, None, min, slice_get, slice_index_or};
 ghost use Rattle.tab_io.specs.Sinks.{Writes};
 ghost use Rattle.tab_core.specs.declared.TheConstants.{ROUND};
 ghost use Rattle.view_lanes.specs.Amounts.{tenths_ms};
+ghost use Rattle.view_svg.specs.Drawings.{IsInPicture, vcpus_view};
 ghost use Rattle.view_svg.specs.Lanes.{is_late, lane_waits_text, longest_wait_text, marked_text, plain_end, promise_end, wait_at, wait_class, wait_end, wait_label, wait_line, wait_note, wait_part, wait_text};
 
+use crate::drawing::{Band, Vcpus};
 use crate::lane::line_in;
 use crate::places::x_at;
 use tab_core::ROUND;
 use tab_io::{Sink, WriteFault, write_all};
 use tab_words::{TextPiece, put_pieces};
 use view_lanes::{Frame, tenths_ms};
-use view_table::Figures;
 
 // Writes the longest wait of a vCPU of a plan on its lane.
 pub(crate) fn put_waits<K: Sink>(
     sink: &mut K,
-    frame: &Frame,
-    y: u32,
-    high: u32,
-    figures: &Figures,
-    promises: &[Option<u64>],
+    band: &Band,
+    vcpus: &Vcpus<'_>,
     row: u64,
 ) -> Result<(), WriteFault>
-    requires low { y < 2 ^ 31 }
-    requires high { high ≤ 4000 }
+    requires band { IsInPicture band.now }
     ensures { Writes (K.state sink.old) (K.state sink.new)
-        (lane_waits_text frame.now y high figures.now promises.now row) result }
+        (lane_waits_text band.now (vcpus_view vcpus.now) row) result }
 {
-    if frame.by_vcpu && !frame.is_run {
+    if band.frame.by_vcpu && !band.frame.is_run {
+        let figures = vcpus.figures;
         put_marked(
             sink,
-            frame,
-            y,
-            high,
+            band,
             &figures.waits,
             &figures.marks,
-            promise_at(promises, row as usize),
+            promise_at(vcpus.promises, row as usize),
             row as usize,
         )
     } else {
@@ -55,42 +51,36 @@ fn promise_at(promises: &[Option<u64>], v: usize) -> Option<u64>
 
 fn put_marked<K: Sink>(
     sink: &mut K,
-    frame: &Frame,
-    y: u32,
-    high: u32,
+    band: &Band,
     waits: &[u32],
     marks: &[u32],
     promise: Option<u64>,
     v: usize,
 ) -> Result<(), WriteFault>
-    requires low { y < 2 ^ 31 }
-    requires high { high ≤ 4000 }
+    requires band { IsInPicture band.now }
     ensures { Writes (K.state sink.old) (K.state sink.new)
-        (marked_text frame.now y high (slice_get waits.now v) (slice_get marks.now v) promise) result }
+        (marked_text band.now (slice_get waits.now v) (slice_get marks.now v) promise) result }
 {
     match waits.get(v) {
-        Some(wait) => put_ending(sink, frame, y, high, *wait, marks, promise, v),
+        Some(wait) => put_ending(sink, band, *wait, marks, promise, v),
         None => Ok(()),
     }
 }
 
 fn put_ending<K: Sink>(
     sink: &mut K,
-    frame: &Frame,
-    y: u32,
-    high: u32,
+    band: &Band,
     wait: u32,
     marks: &[u32],
     promise: Option<u64>,
     v: usize,
 ) -> Result<(), WriteFault>
-    requires low { y < 2 ^ 31 }
-    requires high { high ≤ 4000 }
+    requires band { IsInPicture band.now }
     ensures { Writes (K.state sink.old) (K.state sink.new)
-        (longest_wait_text frame.now y high wait (slice_get marks.now v) promise) result }
+        (longest_wait_text band.now wait (slice_get marks.now v) promise) result }
 {
     match marks.get(v) {
-        Some(mark) => put_wait(sink, frame, y, high, wait, *mark, promise),
+        Some(mark) => put_wait(sink, band, wait, *mark, promise),
         None => Ok(()),
     }
 }
@@ -98,47 +88,41 @@ fn put_ending<K: Sink>(
 // Writes a wait of so many ticks that ends at a tick of two rounds.
 fn put_wait<K: Sink>(
     sink: &mut K,
-    frame: &Frame,
-    y: u32,
-    high: u32,
+    band: &Band,
     wait: u32,
     mark: u32,
     promise: Option<u64>,
 ) -> Result<(), WriteFault>
-    requires low { y < 2 ^ 31 }
-    requires high { high ≤ 4000 }
-    ensures { Writes (K.state sink.old) (K.state sink.new)
-        (wait_text frame.now y high wait mark promise) result }
+    requires band { IsInPicture band.now }
+    ensures { Writes (K.state sink.old) (K.state sink.new) (wait_text band.now wait mark promise) result }
 {
     put_wait_at(
         sink,
-        frame,
-        y + high / 2,
-        mark.saturating_sub(wait),
-        mark,
-        line_in(y, high, 800),
+        &band.frame,
+        band.y + band.high / 2,
+        line_in(band.y, band.high, 800),
         wait,
+        mark,
         promise,
     )
 }
 
-// Writes the line from one tick of two rounds to another, and how long it is.
+// Writes a wait of so many ticks at a height, and on the line of its text how long it is.
 fn put_wait_at<K: Sink>(
     sink: &mut K,
     frame: &Frame,
     y: u32,
-    begin: u32,
-    mark: u32,
     line: u32,
     wait: u32,
+    mark: u32,
     promise: Option<u64>,
 ) -> Result<(), WriteFault>
     ensures { Writes (K.state sink.old) (K.state sink.new)
-        (wait_at frame.now y begin mark line wait promise) result }
+        (wait_at frame.now y line wait mark promise) result }
 {
     write_all(sink, b"<path class=\"wait\" d=\"")?;
-    put_first_part(sink, frame, y, begin, mark)?;
-    put_second_part(sink, frame, y, begin, mark)?;
+    put_first_part(sink, frame, y, wait, mark)?;
+    put_second_part(sink, frame, y, wait, mark)?;
     put_note(sink, frame.tick, line, wait, promise)
 }
 
@@ -147,13 +131,13 @@ fn put_first_part<K: Sink>(
     sink: &mut K,
     frame: &Frame,
     y: u32,
-    begin: u32,
+    wait: u32,
     mark: u32,
 ) -> Result<(), WriteFault>
     ensures { Writes (K.state sink.old) (K.state sink.new)
-        (wait_part frame.now y begin (min mark ROUND)) result }
+        (wait_part frame.now y (mark - wait) (min mark ROUND)) result }
 {
-    put_part(sink, frame, y, begin, mark.min(ROUND))
+    put_part(sink, frame, y, mark.saturating_sub(wait), mark.min(ROUND))
 }
 
 // Writes the part in the second.
@@ -161,13 +145,13 @@ fn put_second_part<K: Sink>(
     sink: &mut K,
     frame: &Frame,
     y: u32,
-    begin: u32,
+    wait: u32,
     mark: u32,
 ) -> Result<(), WriteFault>
     ensures { Writes (K.state sink.old) (K.state sink.new)
-        (wait_part frame.now y (begin - ROUND) (mark - ROUND)) result }
+        (wait_part frame.now y (mark - wait - ROUND) (mark - ROUND)) result }
 {
-    let from = begin.saturating_sub(ROUND);
+    let from = mark.saturating_sub(wait).saturating_sub(ROUND);
     put_part(sink, frame, y, from, mark.saturating_sub(ROUND))
 }
 

@@ -3,6 +3,7 @@ use Rattle.std.proofs.lemmas.Grind.{common_steps}
 use Rattle.std.proofs.lemmas.Result.{err_from_is_err_and}
 use Rattle.tab_words.proofs.NumberedTextLemmas.{all_written, next_broken, next_written, none_written}
 use Rattle.view_svg.proofs.KeyLemmas.{count_more}
+use Rattle.view_svg.specs.Drawings.{palette_view}
 use Rattle.view_svg.specs.Keys.{has_lane}
 use Rattle.view_chart.specs.Legends.{legend_entry_at}
 use Rattle.view_chart.proofs.legend.put_entries.Goals as goal
@@ -17,21 +18,23 @@ loop-v-init g c = record {
 pub returns-in_err-put_entry : goal.returns-in_err-put_entry
 returns-in_err-put_entry g c =
     let p = err_from_is_err_and c.from_residual.result c.from_residual.ensures.1 in
-    rw p.1 (next_broken _ _ _ (legend_entry_at c.args.tick c.args.foot c.args.names.now c.args.tasks.now c.args.colours.now c.args.lanes.now) c.loop-v.v _ (tt {0}) _
-    c.in_err-put_entry.field-0.0 c.loop-v-test.true c.loop-v.invariant.wrote c.put_entry.ensures
-    c.in_err-put_entry.was)
+    let low : c.loop-v.v < 256 = omega (arith, c.loop-v-test.true, c.args.palette.now.few) in
+    let met = c.has-held.ensures ∙ c.holders_in-holders.ensures c.loop-v.v low in
+    rw p.1 (next_broken _ _ _ (legend_entry_at c.args.tick c.args.foot (palette_view c.args.palette.now) c.args.lanes.now) c.loop-v.v _ (tt {0}) _
+    c.in_err-put_entry.field-0.0 c.loop-v-test.true c.loop-v.invariant.wrote
+    (rw (met, c.loop-v.invariant.place) at c.put_entry.ensures) c.in_err-put_entry.was)
 
 pub loop-v-preserved : goal.loop-v-preserved
-loop-v-preserved g c = record {
-  wrote = next_written _ _ _ (legend_entry_at c.args.tick c.args.foot c.args.names.now c.args.tasks.now c.args.colours.now c.args.lanes.now) c.loop-v.v
-      (tt {0}) c.in_ok-put_entry.field-0 _ c.loop-v.invariant.wrote c.put_entry.ensures c.in_ok-put_entry.was;
-  place =
-      let low : c.loop-v.v < 256 = omega (arith, c.loop-v-test.true, c.requires.few) in
-      let met = c.has-held.ensures ∙ c.holders_in-holders.ensures c.loop-v.v low in
-      c.next_place-place.ensures ∙ count_more (has_lane c.args.lanes.now) c.loop-v.v _ _ met c.loop-v.invariant.place;
-  few = grind (arith, common_steps, c.next_place-place.ensures, c.loop-v.invariant.few);
-}
+loop-v-preserved g c =
+    let low : c.loop-v.v < 256 = omega (arith, c.loop-v-test.true, c.args.palette.now.few) in
+    let met = c.has-held.ensures ∙ c.holders_in-holders.ensures c.loop-v.v low in
+    record {
+      wrote = next_written _ _ _ (legend_entry_at c.args.tick c.args.foot (palette_view c.args.palette.now) c.args.lanes.now) c.loop-v.v (tt {0}) c.in_ok-put_entry.field-0 _ c.loop-v.invariant.wrote
+          (rw (met, c.loop-v.invariant.place) at c.put_entry.ensures) c.in_ok-put_entry.was;
+      place = c.next_place-place.ensures ∙ count_more (has_lane c.args.lanes.now) c.loop-v.v _ _ met c.loop-v.invariant.place;
+      few = grind (arith, common_steps, c.next_place-place.ensures, c.loop-v.invariant.few);
+    }
 
 pub returns : goal.returns
-returns g c = all_written _ _ (legend_entry_at c.args.tick c.args.foot c.args.names.now c.args.tasks.now c.args.colours.now c.args.lanes.now) c.loop-v.v _ (tt {0})
+returns g c = all_written _ _ (legend_entry_at c.args.tick c.args.foot (palette_view c.args.palette.now) c.args.lanes.now) c.loop-v.v _ (tt {0})
     c.loop-v.auto.v-end c.loop-v-test.false c.loop-v.invariant.wrote

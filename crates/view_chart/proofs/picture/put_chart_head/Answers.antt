@@ -9,13 +9,13 @@ use Rattle.view_chart.proofs.picture.put_chart_head.Goals as goal
 pub returns : goal.returns
 returns g c =
     let tall = subst (λ (t : ℕ). Writes {U = Unit {0}} (g.K.Sink.state c.args.sink.now)
-    (g.K.Sink.state c.put_head.new.sink) (head_text c.args.width t c.head_of-head.result) c.put_head.result)
+    (g.K.Sink.state c.put_head.new.sink) (head_text c.args.width t c.head_in-head.result) c.put_head.result)
     c.tall_of.ensures c.put_head.ensures in
     let listed = subst (λ (k : ℕ). Writes {U = Unit {0}} (g.K.Sink.state c.args.sink.now)
     (g.K.Sink.state c.put_head.new.sink)
-    (head_text c.args.width (tall_of (length c.args.lanes.now) k) c.head_of-head.result) c.put_head.result)
+    (head_text c.args.width (tall_of (length c.args.lanes.now) k) c.head_in-head.result) c.put_head.result)
     c.listed_in-keys.ensures.value tall in
     subst (λ (h : Head). Writes {U = Unit {0}} (g.K.Sink.state c.args.sink.now)
     (g.K.Sink.state c.put_head.new.sink)
     (head_text c.args.width (tall_of (length c.args.lanes.now) (listed_in c.args.lanes.now c.args.names.now)) h)
-    c.put_head.result) c.head_of-head.ensures listed
+    c.put_head.result) c.head_in-head.ensures listed

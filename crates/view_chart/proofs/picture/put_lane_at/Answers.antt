@@ -7,4 +7,4 @@ returns g c =
     let bars : c.bars.result.now ≡ slice_index_or c.args.lanes.now c.args.i [] =
     c.bars.ensures ∙ get_or_read c.args.lanes.now c.args.i c.index-lanes-i.result c.requires.there
     c.index-lanes-i.is [] in
-    rw (c.from.ensures, c.top_of-y.ensures.value, c.height_of.ensures.value, bars) at c.put_lane.ensures
+    rw (c.from.ensures, c.band_at-band.ensures.value, bars) at c.put_lane.ensures

@@ -42,7 +42,7 @@ returns-in_err-put_rounds g c =
     let at1 = left_behind _ _ _ _ _ _ _ _ _ at0 refl c.put_grounds.ensures c.in_ok-put_grounds.was in
     let at2 = left_behind _ _ _ _ _ _ _ _ _ at1 refl c.put_axis.ensures c.in_ok-put_axis.was in
     let at3 = left_behind _ _ _ _ _ _ _ _ _ at2 refl c.put_lanes.ensures c.in_ok-put_lanes.was in
-    rw p.1 (left_broken _ _ _ _ _ _ _ _ _ at3 refl c.put_rounds.ensures c.in_err-put_rounds.was)
+    rw p.1 (left_broken _ _ _ _ _ _ _ _ _ at3 refl (rw c.shown_in.ensures at c.put_rounds.ensures) c.in_err-put_rounds.was)
 
 pub returns-in_err-put_legend : goal.returns-in_err-put_legend
 unfolding chart_of
@@ -52,7 +52,7 @@ returns-in_err-put_legend g c =
     let at1 = left_behind _ _ _ _ _ _ _ _ _ at0 refl c.put_grounds.ensures c.in_ok-put_grounds.was in
     let at2 = left_behind _ _ _ _ _ _ _ _ _ at1 refl c.put_axis.ensures c.in_ok-put_axis.was in
     let at3 = left_behind _ _ _ _ _ _ _ _ _ at2 refl c.put_lanes.ensures c.in_ok-put_lanes.was in
-    let at4 = left_behind _ _ _ _ _ _ _ _ _ at3 refl c.put_rounds.ensures c.in_ok-put_rounds.was in
+    let at4 = left_behind _ _ _ _ _ _ _ _ _ at3 refl (rw c.shown_in.ensures at c.put_rounds.ensures) c.in_ok-put_rounds.was in
     rw p.1 (left_broken _ _ _ _ _ _ _ _ _ at4 refl c.put_legend.ensures c.in_err-put_legend.was)
 
 pub returns : goal.returns
@@ -62,6 +62,6 @@ returns g c =
     let at1 = left_behind _ _ _ _ _ _ _ _ _ at0 refl c.put_grounds.ensures c.in_ok-put_grounds.was in
     let at2 = left_behind _ _ _ _ _ _ _ _ _ at1 refl c.put_axis.ensures c.in_ok-put_axis.was in
     let at3 = left_behind _ _ _ _ _ _ _ _ _ at2 refl c.put_lanes.ensures c.in_ok-put_lanes.was in
-    let at4 = left_behind _ _ _ _ _ _ _ _ _ at3 refl c.put_rounds.ensures c.in_ok-put_rounds.was in
+    let at4 = left_behind _ _ _ _ _ _ _ _ _ at3 refl (rw c.shown_in.ensures at c.put_rounds.ensures) c.in_ok-put_rounds.was in
     let at5 = left_behind _ _ _ _ _ _ _ _ _ at4 refl c.put_legend.ensures c.in_ok-put_legend.was in
     left_last _ _ _ _ _ _ at5 c.write_all.ensures

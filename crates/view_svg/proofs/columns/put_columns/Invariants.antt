@@ -1,6 +1,7 @@
 use Rattle.std.proofs.Common.{Ok}
 use Rattle.tab_io.specs.Sinks.{Writes}
 use Rattle.tab_words.specs.Texts.{texts_below}
+use Rattle.view_svg.specs.Drawings.{palette_view}
 use Rattle.view_svg.specs.Columns.{column_path}
 use Rattle.view_svg.specs.Inside.Filling.{AreTicksBelow}
 use Rattle.view_svg.proofs.columns.put_columns.Given as goal
@@ -9,6 +10,6 @@ use Rattle.view_svg.proofs.columns.put_columns.Given as goal
 abbrev pub invariant-loop-v : goal.invariant-loop-v
 invariant-loop-v g l = record {
   wrote : Writes {U = Unit {0}} (g.K.Sink.state l.fn.sink) (g.K.Sink.state l.sink)
-      (texts_below (column_path l.frame l.y l.high l.names l.tasks l.colours l.bars) l.v) (Ok (tt {0}));
-  below : AreTicksBelow l.frame l.bars l.v l.ticks;
+      (texts_below (column_path l.band (palette_view l.palette) l.bars) l.v) (Ok (tt {0}));
+  below : AreTicksBelow l.band.frame l.bars l.v l.ticks;
 }

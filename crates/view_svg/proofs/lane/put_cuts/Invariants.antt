@@ -6,4 +6,4 @@ use Rattle.view_svg.proofs.lane.put_cuts.Given as goal
 -- the texts so far came
 abbrev pub invariant-loop-bar : goal.invariant-loop-bar
 invariant-loop-bar g l = Writes {U = Unit {0}} (g.K.Sink.state l.fn.sink) (g.K.Sink.state l.sink)
-    (flat_map (bar_cut l.frame l.y l.high) (take l.bar-index l.bars)) (Ok (tt {0}))
+    (flat_map (bar_cut l.band) (take l.bar-index l.bars)) (Ok (tt {0}))

@@ -6,4 +6,4 @@ use Rattle.view_svg.proofs.lane.put_names.Given as goal
 -- the texts so far came
 abbrev pub invariant-loop-bar : goal.invariant-loop-bar
 invariant-loop-bar g l = Writes {U = Unit {0}} (g.K.Sink.state l.fn.sink) (g.K.Sink.state l.sink)
-    (flat_map (bar_name l.frame l.y l.high l.names) (take l.bar-index l.bars)) (Ok (tt {0}))
+    (flat_map (bar_name l.band l.names) (take l.bar-index l.bars)) (Ok (tt {0}))

@@ -1,7 +1,7 @@
 use Rattle.std.proofs.lemmas.Result.{err_from_is_err_and}
 use Rattle.std.proofs.Common.{refl}
 use Rattle.tab_io.proofs.SinkLemmas.{all_left, left_behind, left_broken, left_last}
-use Rattle.view_svg.proofs.lane_picture.put_lane_of.Goals as goal
+use Rattle.view_svg.proofs.lane_picture.put_lane.Goals as goal
 
 pub returns-in_err-put_label : goal.returns-in_err-put_label
 returns-in_err-put_label g c =
