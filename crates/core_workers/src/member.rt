@@ -109,13 +109,9 @@ impl<'a> Stepper for Member<'a> {
             return;
         }
         let outline = self.course.outline();
-        let Some(used) = self.state.last_used() else {
+        let Some(used) = self.state.last_used(outline) else {
             return;
         };
-        // no round uses more events than there are, but no contract says so here
-        if used > outline.count() {
-            return;
-        }
         let table = self.slices.table_after(self.course, used);
         let way = Way {
             outline,

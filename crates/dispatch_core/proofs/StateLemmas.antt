@@ -5,8 +5,9 @@ use Rattle.tab_core.specs.declared.TheConstants.{ROUND}
 use Rattle.tab_core.specs.declared.entry.Entry.{Entry}
 use Rattle.tab_core.specs.declared.stint.Stint.{Stint}
 use Rattle.table_form.specs.Running.Choice.{last_shared}
-use Rattle.table_form.specs.Running.Courses.{CourseView}
+use Rattle.table_form.specs.Running.Courses.{CourseView, InEachCourse, outline_of, plan_after}
 use Rattle.table_form.specs.Running.Outlines.{OutlineView}
+use Rattle.table_form.proofs.CourseLemmas.{in_course}
 use Rattle.round_words.specs.declared.view.Part.{Part}
 use Rattle.round_words.specs.declared.view.View.{View}
 use Rattle.round_words.specs.Hearing.{KnowsClocks}
@@ -118,3 +119,15 @@ stands_entered o s v w used count stands less others seen entries enters is =
       known = knows_same s.known p q same.heard stands.known;
       within = stands.within;
     }
+
+-- a core whose step ended by the plan that its round uses agrees with its part again
+pub agrees_ended : (course : CourseView) (o : OutlineView) (used : ℕ) (s t : StateView) (v w : View) → outline_of course ≡ o
+    → AgreesWith course s v → AgreesWithoutPlan o t w → t.core ≡ s.core
+    → InEachCourse o used (plan_after course used) (λ (x : CourseView).
+    FollowsPlans x s (part v s.core) → FollowsPlans x t (part w s.core))
+    → AgreesWith course t w
+agrees_ended course o used s t v w is agrees stands core plans = record {
+  stands = subst (λ (x : OutlineView). AgreesWithoutPlan x t w) (sym is) stands;
+  plans = subst (λ (i : ℕ). FollowsPlans course t (part w i)) (sym core) (in_course course o used (plan_after course used)
+      (λ (x : CourseView). FollowsPlans x s (part v s.core) → FollowsPlans x t (part w s.core)) is refl plans agrees.plans);
+}

@@ -177,9 +177,15 @@ abbrev pub WaitsAtLast : (o : OutlineView) (rounds c count : ℕ) (v w : View) �
 WaitsAtLast o rounds c zero v w made = ⊥
 WaitsAtLast o rounds c (suc n) v w made = IsWait made.1
 
--- Core c made some steps, in all that needs no plan, by which its clock came to this tick. It went on until it waited, or the
--- tick was above the limit, or at the end
+-- the last of so many steps began where the core's clock was at the limit at most
+abbrev pub BeganBy : (limit : ℕ) (o : OutlineView) (rounds c count : ℕ) (v w : View) → MakesSteps o rounds c count v w → Type 0
+BeganBy limit o rounds c zero v w made = Unit {0}
+BeganBy limit o rounds c (suc n) v w made = (part made.0 c).clock ≤ limit
+
+-- Core c made some steps, in all that needs no plan, by which its clock came to this tick. The last one began at the limit at
+-- most, and so each one, since a clock never falls. It went on until it waited, or the tick was above the limit, or at the end
 pub record RunsTo (o : OutlineView) (rounds c limit end : ℕ) (v w : View) (clock : ℕ) : Type 0 where
   pub count : ℕ
   pub steps : MakesSteps o rounds c count v w
+  pub began : BeganBy limit o rounds c count v w steps
   pub stops : (limit < clock) ⊎ (end ≤ clock) ⊎ WaitsAtLast o rounds c count v w steps

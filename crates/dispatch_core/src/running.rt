@@ -1,6 +1,6 @@
-ghost use Rattle.std.specs.Prelude.{◌≡◌, ◌≢◌, ◌+◌, ◌-◌, ◌*◌, ◌%◌, ◌<◌, ◌≤◌, ℕ, Some, length, slice_get};
+ghost use Rattle.std.specs.Prelude.{◌≡◌, ◌-◌, ◌*◌, ◌%◌, ◌<◌, ◌≤◌, Some, length, slice_get};
 ghost use Rattle.tab_core.specs.declared.TheConstants.{ROUND};
-ghost use Rattle.table_form.specs.Running.Courses.{CourseView, InEachCourse};
+ghost use Rattle.table_form.specs.Running.Courses.{InEachCourse};
 ghost use Rattle.table_form.specs.Tables.Plans.{PlanView};
 ghost use Rattle.round_words.specs.Changes.{ChangesOnly};
 ghost use Rattle.round_words.specs.Seats.{view_of, IsSeatOf};
@@ -13,26 +13,18 @@ ghost use Rattle.dispatch_core.specs.Told.{RunsTo};
 
 use crate::answer::{CoreAnswer, Ended};
 use crate::beginning::has_events;
-use crate::ending::{Due, run_at};
+use crate::ending::{number_behind, run_at};
 use crate::log::CoreLog;
 use crate::state::CoreState;
+use crate::way::Way;
 use crew_turns::Pass;
 use round_words::{RoundBoard, RoundSeat};
-use slice_table::SliceTable;
-use tab_core::{Actor, CoreNo, ROUND, Stint};
-use table_form::{Outline, Span};
-
-/// By what a core runs on: the course without its plans, how many events the plan of its round includes, and the core's slice
-/// table of that plan.
-#[derive(Clone, Copy)]
-pub struct Way<'a> {
-    pub outline: &'a Outline,
-    pub used: u32,
-    pub table: &'a SliceTable,
-}
+use tab_core::{Actor, CoreNo, ROUND};
+use table_form::Span;
 
 /// Further steps of a core in the round that it entered last, each as `begin_step` and `end_step` make it, and after a pass.
-/// They go on until the core waits, its clock is above the limit (ticks of the run), or the round is at its end.
+/// Each begins where the clock is at the limit at most (ticks of the run). They go on until the core waits, its clock is above
+/// the limit, or the round is at its end.
 ///
 /// The seat holds the core, and the state agrees with the core's part in all that needs no plan, which it does
 /// again afterwards.
@@ -121,17 +113,6 @@ fn run_log<P: Pass>(
     *place = number as u32;
 }
 
-// The number of the span at which the next stint begins, which is the next one where the stint ends this one, whose end is
-// given. Counted and not branched on, since whether a stint ends its span can't be foreseen.
-#[inline(always)]
-fn number_behind(number: usize, stint: &Stint, end: u32) -> usize
-    requires { number < ROUND }
-    ensures ended { stint.now.end ≡ end → result ≡ number + 1 }
-    ensures inside { stint.now.end ≢ end → result ≡ number }
-{
-    number + (stint.end == end) as usize
-}
-
 // A step in the round that was entered last, at this span.
 #[inline(always)]
 fn go_on(
@@ -155,13 +136,7 @@ fn go_on(
             tick: way.outline.tick_of(seen),
         };
     }
-    let due = Due {
-        outline: way.outline,
-        seen,
-        used: way.used,
-        table: way.table,
-    };
-    match run_at(board, seat, log, &due, start, span) {
+    match run_at(board, seat, log, way, seen, start, span) {
         Ended::Ran(stint) => CoreAnswer::Ran(stint),
         Ended::Behind { core, tick } => CoreAnswer::Behind {
             who: Actor::Core(core),

@@ -86,15 +86,22 @@ impl CoreState {
         &self.log.used
     }
 
-    /// The used count of the round that the core entered last, if it has entered one.
-    pub fn last_used(&self) -> Option<u32>
-        ensures { IfSome result (λ used. slice_get self.now.used (length self.now.used - 1) ≡ Some used) }
+    /// The used count of the round that the core entered last, if it has entered one. A core's round uses no more events than
+    /// the outline has; for another outline there may be none.
+    pub fn last_used(&self, outline: &Outline) -> Option<u32>
+        ensures last { IfSome result (λ used. slice_get self.now.used (length self.now.used - 1) ≡ Some used) }
+        ensures within { IfSome result (λ used. used ≤ length outline.now.ticks) }
     {
         let rounds = self.log.used.len();
         if rounds == 0 {
             return None;
         }
-        Some(self.log.used[rounds - 1])
+        let used = self.log.used[rounds - 1];
+        // no round uses more, but what a state shows by itself doesn't say so
+        if used > outline.count() {
+            return None;
+        }
+        Some(used)
     }
 
     /// The stints that are kept, which are the core's first ones.

@@ -1,8 +1,10 @@
 -- What a core takes of the changes of a live book, and the plan that is after them.
-use Rattle.std.proofs.Common.{◌≡◌, ℕ, suc, ◌+◌, ◌≤◌, List, length, Option, None, Some, inl, inr, sym, subst, arith}
+use Rattle.std.proofs.Common.{◌≡◌, ℕ, suc, ◌+◌, ◌≤◌, List, length, Option, None, Some, inl, inr, sym, subst, ◌∙◌, arith}
 use Rattle.std.specs.Prelude.{slice_get}
 use Rattle.tab_core.specs.declared.host.Host.{Host}
-use Rattle.table_form.specs.Running.Courses.{CourseView, plan_after}
+use Rattle.table_form.specs.Running.Courses.{CourseView, InEachCourse, plan_after}
+use Rattle.table_form.specs.Running.Outlines.{OutlineView}
+use Rattle.table_form.proofs.CourseLemmas.{in_course}
 use Rattle.table_form.specs.Tables.Plans.{PlanView}
 use Rattle.slice_table.specs.declared.full_span.FullSpan.{FullSpan}
 use Rattle.plan_make.specs.Planned.{IsPlanned}
@@ -95,3 +97,10 @@ never_refused b k i outcome last of =
 pub course_plan : (b : LiveView) (course : CourseView) (n : ℕ) (plan : PlanView) → IsLiveCourse b course
     → n ≤ length b.outline.ticks → IsPlanAt b (changes_before b n) plan → plan ≡ plan_after course n
 course_plan b course n plan of le at = sym (of.after n at.host plan le at.after at.planned)
+
+-- what holds by each course of the book's outline with the plan of a core's table after so many events holds by each of the book's
+pub in_live : (b : LiveView) (o : OutlineView) (used c : ℕ) (slices : List FullSpan) (Holds : CourseView → Type 0) → o ≡ b.outline
+    → used ≤ length b.outline.ticks → (table : IsSliceAt b (changes_before b used) c slices) → InEachCourse o used table.plan Holds
+    → (course : CourseView) → IsLiveCourse b course → Holds course
+in_live b o used c slices Holds is le table each course live = in_course course o used table.plan Holds (live.outline ∙ sym is)
+    (course_plan b course used table.plan live le table.at) each

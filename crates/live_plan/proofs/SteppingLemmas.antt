@@ -1,11 +1,12 @@
 -- What a live core's step did, from what its begin and its end did.
-use Rattle.std.proofs.Common.{◌≡◌, ℕ, ◌*◌, ◌/◌, ◌<◌, List, Some, inl, inr, refl, ap, sym, subst, ◌∙◌}
+use Rattle.std.proofs.Common.{◌≡◌, ℕ, ◌*◌, ◌/◌, ◌<◌, ◌≤◌, List, length, Some, inl, inr, refl, ap, sym, subst, ◌∙◌}
 use Rattle.std.specs.Prelude.{slice_get}
 use Rattle.tab_core.specs.declared.TheConstants.{ROUND}
 use Rattle.tab_core.specs.declared.actor.Actor.{Actor}
 use Rattle.tab_core.specs.declared.actor.Actor.TheVariants.{Core, Controller}
-use Rattle.table_form.specs.Running.Courses.{CourseView}
+use Rattle.table_form.specs.Running.Courses.{CourseView, InEachCourse}
 use Rattle.table_form.specs.Running.Outlines.{OutlineView}
+use Rattle.slice_table.specs.declared.full_span.FullSpan.{FullSpan}
 use Rattle.slice_table.specs.Slices.{IsTableOf}
 use Rattle.round_words.specs.declared.view.Part.{Part}
 use Rattle.round_words.specs.declared.view.View.{View}
@@ -13,9 +14,10 @@ use Rattle.round_words.specs.Changes.{ChangesOnly}
 use Rattle.round_words.specs.Views.{last_of, part, sees}
 use Rattle.round_words.proofs.ListLemmas.{last_of-push}
 use Rattle.dispatch_core.specs.declared.answer.Begun.TheVariants as start
+use Rattle.dispatch_core.specs.declared.answer.Ended.{Ended}
 use Rattle.dispatch_core.specs.Parts.{used_counts}
 use Rattle.dispatch_core.specs.States.{AgreesWithoutPlan, FollowsPlans, HasBegun, StateView}
-use Rattle.dispatch_core.specs.Told.{BeginsStep, BegunTold, LacksEvent}
+use Rattle.dispatch_core.specs.Told.{BeginsStep, BegunTold, EndGoes, EndTold, LacksEvent}
 use Rattle.dispatch_core.proofs.EntryLemmas.{used_at}
 use Rattle.dispatch_core.proofs.PartLemmas.{entered_same}
 use Rattle.dispatch_core.proofs.ToldLemmas.{low_told}
@@ -24,9 +26,12 @@ use Rattle.live_plan.specs.declared.answer.LiveAnswer.TheVariants.{Ran, Behind, 
 use Rattle.live_plan.specs.Actors.{IsLiveActorOf, LiveActorView, LiveAgrees, live_actor_view}
 use Rattle.live_plan.specs.Asking.{IsBeyond, LooksBeyond, Needs}
 use Rattle.live_plan.specs.Books.{LiveView, changes_before}
-use Rattle.live_plan.specs.Inside.Finishing.{LiveFinishTold, WaitTold, WaitsForCore}
+use Rattle.live_plan.specs.Courses.{IsLiveCourse}
+use Rattle.live_plan.specs.Inside.Finishing.{IsEndOf, LiveFinishTold, WaitTold, WaitsForCore}
+use Rattle.live_plan.specs.Inside.Seeking.{IsSliceAt}
 use Rattle.live_plan.specs.Shelves.{Grows, ShelfView}
 use Rattle.live_plan.specs.Told.{LiveTold, NeedsChange, WaitsFor}
+use Rattle.live_plan.proofs.SeekingLemmas.{in_live}
 use Rattle.live_plan.proofs.ShelvesLemmas.{missed_since}
 
 -- a core that waits for a core looked beyond what it saw
@@ -213,12 +218,32 @@ actor_on b a state of core = record {
   last = of.last;
 }
 
--- a core that began its step agrees with its part again
+-- a core that has gone on agrees with its part again
 pub agrees_on : (b : LiveView) (o : OutlineView) (old new : StateView) (v u : View) → o ≡ b.outline → LiveAgrees b old v
     → AgreesWithoutPlan o new u → new.core ≡ old.core
-    → ((course : CourseView) → FollowsPlans course old (part v old.core) → FollowsPlans course new (part u old.core))
+    → ((course : CourseView) → IsLiveCourse b course
+    → FollowsPlans course old (part v old.core) → FollowsPlans course new (part u old.core))
     → LiveAgrees b new u
 agrees_on b o old new v u is agrees stands core plans = record {
   stands = subst (λ (x : OutlineView). AgreesWithoutPlan x new u) is stands;
-  plans = λ course live. subst (λ (i : ℕ). FollowsPlans course new (part u i)) (sym core) (plans course (agrees.plans course live));
+  plans = λ course live. subst (λ (i : ℕ). FollowsPlans course new (part u i)) (sym core) (plans course live (agrees.plans course live));
 }
+
+-- by a table of the plan that its round uses, and as an end of a step
+module _ (b : LiveView) (o : OutlineView) (old : StateView) (v : View) (used : ℕ) (slices : List FullSpan) (is : o ≡ b.outline)
+    (le : used ≤ length b.outline.ticks) (table : IsSliceAt b (changes_before b used) old.core slices) (agrees : LiveAgrees b old v)
+    (new : StateView) (w : View) where
+  pub agrees_by : AgreesWithoutPlan o new w → new.core ≡ old.core → InEachCourse o used table.plan (λ (course : CourseView).
+      FollowsPlans course old (part v old.core) → FollowsPlans course new (part w old.core)) → LiveAgrees b new w
+  agrees_by stands core plans = agrees_on b o old new v w is agrees stands core (in_live b o used old.core slices
+      (λ (course : CourseView). FollowsPlans course old (part v old.core) → FollowsPlans course new (part w old.core))
+      is le table plans)
+
+  pub end_by : (ended : Ended) → EndGoes o old.core v ended w → InEachCourse o used table.plan (λ (course : CourseView).
+      FollowsPlans course old (part v old.core) → EndTold course old.core v ended w) → IsEndOf b old.core v ended w
+  end_by ended goes told = record {
+    goes = subst (λ (x : OutlineView). EndGoes x old.core v ended w) is goes;
+    told = λ course live. in_live b o used old.core slices
+        (λ (x : CourseView). FollowsPlans x old (part v old.core) → EndTold x old.core v ended w) is le table told course live
+        (agrees.plans course live);
+  }

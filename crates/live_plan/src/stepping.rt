@@ -20,7 +20,6 @@ use crate::shelf::Shelf;
 use crew_turns::Pass;
 use dispatch_core::{Begun, CoreState, Ended, Way, begin_step, end_step, run_on};
 use round_words::{RoundBoard, RoundSeat};
-use slice_table::SliceTable;
 use tab_core::Actor;
 
 /// One step of a core by a live book: `core_step`, with the plans that the shelf gives.
@@ -122,35 +121,33 @@ fn finish<'a, H: Shelf<'a>>(
     match keep(book, shelf, &mut actor.taken, kept, actor.core, used) {
         Err(Unmade::NotMade { change }) => LiveAnswer::NotMade { change },
         Err(Unmade::Stopped { change }) => LiveAnswer::Stopped { change },
-        Ok(()) => run(
-            board,
-            seat,
-            &mut actor.state,
-            kept.table_or(&actor.table),
-            book,
-            shelf,
-            seen,
-            used,
-        ),
+        Ok(()) => {
+            let way = Way {
+                outline: book.outline(),
+                used,
+                table: kept.table_or(&actor.table),
+            };
+            run(board, seat, &mut actor.state, &way, book, shelf, seen)
+        }
     }
 }
 
-// The end of a step by this slice table.
+// The end of a step by this slice table, which is the core's of the plan that its round uses.
 #[inline(always)]
 fn run<'a, H: Shelf<'a>>(
     board: &RoundBoard,
     seat: &mut RoundSeat,
     state: &mut CoreState,
-    table: &SliceTable,
+    way: &Way<'_>,
     book: &'a LiveBook,
     shelf: &mut H,
     seen: u32,
-    used: u32,
 ) -> LiveAnswer
     requires board { IsSeatOf board.now seat.old }
     requires agrees { LiveAgrees book.now state.old (view_of seat.old) }
-    requires begun { HasBegun book.now.outline state.old (view_of seat.old) seen used }
-    requires table { IsSliceAt book.now (changes_before book.now used) state.old.core table.now }
+    requires outline { way.now.outline.now ≡ book.now.outline }
+    requires begun { HasBegun book.now.outline state.old (view_of seat.old) seen way.now.used }
+    requires table { IsSliceAt book.now (changes_before book.now way.now.used) state.old.core way.now.table.now }
     requires shelf { H.is_of shelf.old book.now }
     ensures board { IsSeatOf board.now seat.new }
     ensures agrees { LiveAgrees book.now state.new (view_of seat.new) }
@@ -158,10 +155,10 @@ fn run<'a, H: Shelf<'a>>(
     ensures changes { ChangesOnly (view_of seat.old) (view_of seat.new) state.old.core }
     ensures shelf { H.is_of shelf.new book.now }
     ensures grows { Grows (H.state shelf.old) (H.state shelf.new) }
-    ensures told { LiveFinishTold book.now state.old.core seen used (view_of seat.old) (H.state shelf.old) result
-        (view_of seat.new) (H.state shelf.new) }
+    ensures told { LiveFinishTold book.now state.old.core seen way.now.used (view_of seat.old) (H.state shelf.old)
+        result (view_of seat.new) (H.state shelf.new) }
 {
-    match end_step(board, seat, book.outline(), state, seen, used, table) {
+    match end_step(board, seat, way, state, seen) {
         Ended::Ran(stint) => LiveAnswer::Ran(stint),
         Ended::Behind { core, tick } => wait(book, shelf, seen, Actor::Core(core), tick),
     }
@@ -195,11 +192,10 @@ pub(crate) fn run_further<P: Pass>(
         return;
     }
     let outline = book.outline();
-    let Some(used) = actor.state.last_used() else {
+    let Some(used) = actor.state.last_used(outline) else {
         return;
     };
-    // no round uses more events than there are, but no contract says so here
-    if used != kept.used || used > outline.count() {
+    if used != kept.used {
         return;
     }
     let way = Way {

@@ -1,4 +1,4 @@
--- What the code keeps on its way. A clause of `span_guessed` cites it, and no clause of the top call rests on it.
+-- What the code keeps on its way. No reader of a public contract needs these.
 pub mod OwnSpans
 pub mod Owners
 pub mod SliceLists

@@ -1,4 +1,4 @@
-ghost use Rattle.std.specs.Prelude.{◌≡◌, ◌^◌, ◌<◌, ◌≤◌, IfNone, IfOk, IfSome, ℕ, Some, length, slice_get};
+ghost use Rattle.std.specs.Prelude.{◌≡◌, ◌^◌, ◌<◌, ◌≤◌, IfOk, ℕ, Some, length, slice_get};
 ghost use Rattle.tab_core.specs.declared.TheConstants.{ROUND};
 ghost use Rattle.table_form.specs.Running.Courses.{plan_number_after};
 ghost use Rattle.table_form.specs.Tables.Plans.{PlanView};
@@ -91,57 +91,9 @@ impl SliceTable {
         self.numbered(number, tick)
     }
 
-    /// `span_at`, for a caller that goes from span to span: `place` is a guess at the span's number, and afterwards
-    /// a guess for the next call. The span doesn't depend on it: where it is the guessed one or the one after that,
-    /// no division is made.
-    pub fn span_near(&self, tick: u32, place: &mut u32) -> Span<'_>
-        requires { tick < ROUND }
-        ensures after { tick < result.end }
-        ensures within { result.end ≤ ROUND }
-        ensures span { (plan : PlanView) (c : ℕ) → IsTableOf plan c self.now
-            → IsSpan plan c tick result.owner result.sharers.now result.end }
-    {
-        let number = self.number_near(tick, *place as usize);
-        *place = number as u32;
-        self.numbered(number, tick)
-    }
-
-    /// The span of this number, if there is one and it holds this tick of a round: for a caller that
-    /// has a guess.
-    #[inline(always)]
-    pub fn span_guessed(&self, tick: u32, guess: u32) -> Option<Span<'_>>
-        ensures none { IfNone result (HoldsTick (ends_of self.now) guess tick → ⊥) }
-        ensures after { IfSome result (λ span. tick < span.end) }
-        ensures within { IfSome result (λ span. span.end ≤ ROUND) }
-        ensures span { IfSome result (λ span. (plan : PlanView) (c : ℕ) → IsTableOf plan c self.now
-            → IsSpan plan c tick span.owner span.sharers.now span.end) }
-    {
-        match self.short_span(guess as usize, tick) {
-            Some(span) => Some(span),
-            None => self.span_numbered(tick, guess),
-        }
-    }
-
-    // The span of this number, if there is one and it holds the tick, whatever its entry. It is a function of its own,
-    // so that the way of a short entry is short.
-    #[cold]
-    #[inline(never)]
-    fn span_numbered(&self, tick: u32, number: u32) -> Option<Span<'_>>
-        ensures none { IfNone result (HoldsTick (ends_of self.now) number tick → ⊥) }
-        ensures after { IfSome result (λ span. tick < span.end) }
-        ensures within { IfSome result (λ span. span.end ≤ ROUND) }
-        ensures span { IfSome result (λ span. (plan : PlanView) (c : ℕ) → IsTableOf plan c self.now
-            → IsSpan plan c tick span.owner span.sharers.now span.end) }
-    {
-        let number = number as usize;
-        if !self.holds(number, tick) {
-            return None;
-        }
-        Some(self.numbered(number, tick))
-    }
-
     /// The number of the span of the core's row that holds this tick of a round, below 102,600. It is sought at the guess and
     /// after it first, and doesn't depend on it.
+    #[inline(always)]
     pub fn number_near(&self, tick: u32, guess: usize) -> usize
         requires tick { tick < ROUND }
         requires small { guess < 2 ^ 32 }

@@ -1,4 +1,4 @@
-ghost use Rattle.std.specs.Prelude.{◌≡◌, ◌<◌, ◌-◌, ◌++◌, [], ◌∷◌, IfOk, IfSome, OnErr, OnOk, length, slice_index_or};
+ghost use Rattle.std.specs.Prelude.{◌≡◌, ◌<◌, ◌++◌, [], ◌∷◌, IfOk, OnErr, OnOk, length, slice_index_or};
 ghost use Rattle.slice_table.specs.declared.entry_list.TheConstants.{ENDS, SHORT};
 
 use std::alloc::{AllocError, Global};
@@ -55,13 +55,6 @@ impl ShortEntry {
     }
 }
 
-/// An entry with the one before it, or with itself where it is the first.
-#[derive(Clone, Copy)]
-pub(crate) struct EntryPair {
-    pub before: SpanEntry,
-    pub entry: SpanEntry,
-}
-
 /// Entries in order: short ones up to the first that can't be kept short. Contracts see the list.
 #[derive(Drop)]
 pub(crate) struct EntryList {
@@ -116,26 +109,6 @@ impl EntryList {
         ensures { result ≡ length self.now }
     {
         self.short.len() + self.long.len()
-    }
-
-    /// The entry of this number with the one before it, where there is one and it is kept short.
-    #[inline(always)]
-    pub fn short_at(&self, number: usize) -> Option<EntryPair>
-        ensures there { IfSome result (λ pair. number < length self.now) }
-        ensures entry { IfSome result (λ pair. pair.entry ≡ slice_index_or self.now number pair.entry) }
-        ensures before { IfSome result (λ pair. 0 < number
-            → pair.before ≡ slice_index_or self.now (number - 1) pair.before) }
-    {
-        if number >= self.short.len() {
-            return None;
-        }
-        let entry = self.short[number].entry();
-        let before = if number == 0 {
-            entry
-        } else {
-            self.short[number - 1].entry()
-        };
-        Some(EntryPair { before, entry })
     }
 
     /// The entry of this number, which is below the count.

@@ -1,10 +1,9 @@
-ghost use Rattle.std.specs.Prelude.{◌≡◌, ◌+◌, ◌^◌, ◌<◌, ◌≤◌, ℕ, IfOk, IfSome, Some, false, length, slice_get, true};
+ghost use Rattle.std.specs.Prelude.{◌≡◌, ◌+◌, ◌^◌, ◌<◌, ◌≤◌, ℕ, IfOk, false, length, true};
 ghost use Rattle.tab_core.specs.declared.TheConstants.{ROUND};
 ghost use Rattle.table_form.specs.Tables.Plans.{PlanView};
 ghost use Rattle.table_form.specs.Tables.Spans.{IsSpan};
 ghost use Rattle.table_form.specs.Tables.Spots.{HasSpans, IsSpot};
 ghost use Rattle.table_form.specs.Tables.Views.{plan_view};
-ghost use Rattle.slice_table.specs.declared.full_span.FullSpan.{FullSpan};
 ghost use Rattle.slice_table.specs.Owners.{AreRowOwners};
 ghost use Rattle.slice_table.specs.Slices.{AreSlices, HoldsTick, IsShortest, IsTableOf, MeetsTwo, ends_of};
 
@@ -120,24 +119,8 @@ impl SliceTable {
         self.spans.span(number)
     }
 
-    // The span of the number, where there is one, its entry is kept short, and it holds the tick.
-    #[inline(always)]
-    pub(crate) fn short_span(&self, number: usize, tick: u32) -> Option<Span<'_>>
-        ensures holds { IfSome result (λ span. HoldsTick (ends_of self.now) number tick) }
-        ensures within { IfSome result (λ span. span.end ≤ ROUND) }
-        ensures span { IfSome result (λ span. (full : FullSpan) → slice_get self.now number ≡ Some full
-            → (span.owner ≡ full.owner) × (span.sharers.now ≡ full.sharers) × (span.end ≡ full.end)) }
-    {
-        let Some(short) = self.spans.short_span(number) else {
-            return None;
-        };
-        if tick >= short.end || (number != 0 && tick < short.before) {
-            return None;
-        }
-        Some(short.span)
-    }
-
     // Whether there is a span of the number, and it holds the tick.
+    #[inline(always)]
     pub(crate) fn holds(&self, number: usize, tick: u32) -> bool
         ensures holds { result ≡ true → HoldsTick (ends_of self.now) number tick }
         ensures small { result ≡ true → number < 2 ^ 32 }

@@ -1,4 +1,4 @@
-ghost use Rattle.std.specs.Prelude.{◌≡◌, ◌<◌, ◌≤◌, ◌-◌, ◌++◌, All, IsTrue, [], ◌∷◌, IfOk, IfSome, OnOk, Some, length, map, slice_get, slice_index};
+ghost use Rattle.std.specs.Prelude.{◌≡◌, ◌<◌, ◌≤◌, ◌++◌, All, IsTrue, [], ◌∷◌, IfOk, OnOk, Some, length, map, slice_get, slice_index};
 ghost use Rattle.tab_core.specs.declared.TheConstants.{ROUND};
 ghost use Rattle.slice_table.specs.declared.full_span.FullSpan.{FullSpan};
 ghost use Rattle.slice_table.specs.declared.entry_list.SpanEntry.{SpanEntry as EntryValue};
@@ -18,14 +18,6 @@ pub(crate) struct Shown {
     pub owner: Option<VcpuNo>,
     pub away: VcpuSet,
     pub sharers: VcpuSet,
-}
-
-/// A span, its end, and the end of the one before it, which means nothing where there is none.
-#[derive(Drop)]
-pub(crate) struct ShortSpan<'a> {
-    pub span: Span<'a>,
-    pub end: u32,
-    pub before: u32,
 }
 
 /// Spans in order, of which those that show the same may share it. Contracts see each with what it shows.
@@ -150,27 +142,6 @@ impl SpanList {
             sharers: &shown.sharers,
             end: entry.end,
         }
-    }
-
-    /// The span of this number, without the vCPUs away, with the end of the one before it, where there is one and its
-    /// entry is kept short.
-    #[inline(always)]
-    pub fn short_span(&self, number: usize) -> Option<ShortSpan<'_>>
-        ensures there { IfSome result (λ short. number < length self.now) }
-        ensures end { IfSome result (λ short. short.end ≡ slice_index (ends_of self.now) number) }
-        ensures before { IfSome result (λ short. 0 < number
-            → short.before ≡ slice_index (ends_of self.now) (number - 1)) }
-        ensures span { IfSome result (λ short. (full : FullSpan) → slice_get self.now number ≡ Some full
-            → (short.span.owner ≡ full.owner) × (short.span.sharers.now ≡ full.sharers)
-            × (short.span.end ≡ full.end)) }
-    {
-        let pair = self.entries.short_at(number)?;
-        let span = self.span(number);
-        Some(ShortSpan {
-            span,
-            end: pair.entry.end,
-            before: pair.before.end,
-        })
     }
 }
 

@@ -14,7 +14,7 @@ use Rattle.dispatch_core.specs.declared.answer.CoreAnswer.TheVariants.{Ran, Behi
 use Rattle.dispatch_core.specs.declared.answer.Ended.{Ended}
 use Rattle.dispatch_core.specs.declared.answer.Ended.TheVariants.{Ran as RanOn, Behind as TooEarly}
 use Rattle.dispatch_core.specs.declared.log.CoreLog.{CoreLog}
-use Rattle.dispatch_core.specs.declared.running.Way.{Way}
+use Rattle.dispatch_core.specs.declared.way.Way.{Way}
 use Rattle.dispatch_core.specs.Inside.Ending.{BySpan}
 use Rattle.dispatch_core.specs.Inside.Logs.{IsLog, log_view}
 use Rattle.dispatch_core.specs.States.{AgreesWithoutPlan, FollowsPlans, IsSameCore}

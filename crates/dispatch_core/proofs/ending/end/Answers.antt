@@ -1,180 +1,26 @@
-use Rattle.std.proofs.Common.{◌≡◌, ◌-◌, ◌*◌, ◌/◌, ◌%◌, ◌++◌, ◌∷◌, [], ℕ, Bool, false, cond, nat_lt, length, refl, sym, ap, ◌∙◌, subst, arith, rules}
-use Rattle.std.proofs.lemmas.Bool.{le-ltb}
-use Rattle.std.proofs.lemmas.Option.{slice_get_within}
-use Rattle.tab_core.specs.declared.TheConstants.{ROUND}
-use Rattle.table_form.specs.Tables.Plans.{PlanView}
-use Rattle.table_form.specs.Tables.Spans.{IsSpan}
-use Rattle.tab_core.specs.declared.stint.Stint.{Stint}
-use Rattle.table_form.specs.Running.Courses.{CourseView, with_plans}
-use Rattle.table_form.specs.Running.Outlines.{OutlineView}
-use Rattle.round_words.specs.declared.view.Part.{Part}
-use Rattle.round_words.specs.declared.view.View.{View}
-use Rattle.round_words.specs.Hearing.{HearsCores}
+use Rattle.std.proofs.Common.{arith}
 use Rattle.round_words.specs.Seats.{view_of}
-use Rattle.round_words.specs.Views.{part}
-use Rattle.round_words.proofs.ChangesLemmas.{changes_more}
-use Rattle.round_words.proofs.HearingLemmas.{heard_same}
-use Rattle.dispatch_core.specs.declared.ending.Due.{Due}
+use Rattle.dispatch_core.specs.declared.answer.Ended.TheVariants.{Ran, Behind}
 use Rattle.dispatch_core.specs.declared.log.CoreLog.{CoreLog}
-use Rattle.dispatch_core.specs.Inside.Ending.{ByTable}
 use Rattle.dispatch_core.specs.Inside.Logs.{log_view}
-use Rattle.dispatch_core.specs.States.{FollowsPlans}
-use Rattle.dispatch_core.specs.Told.{BeginsNext}
-use Rattle.dispatch_core.proofs.EntryLemmas.{count_used}
-use Rattle.dispatch_core.proofs.PartLemmas.{SameRun}
-use Rattle.dispatch_core.proofs.StateLemmas.{plans_same, stands_same}
-use Rattle.dispatch_core.proofs.StintLemmas.{begins_next, begins_same, plans_ran, stands_ran}
-use Rattle.dispatch_core.proofs.ToldLemmas.{heard_seen, hears_same, low_same, low_stays, run_of_same}
+use Rattle.dispatch_core.proofs.EndingLemmas.{clock_in_round, ends_by_table}
 use Rattle.dispatch_core.proofs.ending.end.Goals as goal
 
-pub advance-requires-clause-sight : goal.advance-requires-clause-sight
-advance-requires-clause-sight c =
-    let hs = heard_same c.args.log.now.core _ _ _ _ _ c.in-None.ensures.heard in
-    omega (arith, ap length hs.sights, c.requires.begun.sight.some)
-
-pub advance-requires-clause-begins : goal.advance-requires-clause-begins
-advance-requires-clause-begins c =
+pub returns-in-Ran : goal.returns-in-Ran
+returns-in-Ran c =
     let log : CoreLog = c.args.log.now in
-    let due : Due = c.args.due.now in
+    let way = c.args.way.now in
     let req = c.requires in
-    let p : Part = part (view_of c.args.seat.now) log.core in
-    let q : Part = part (view_of c.hear_all.new.seat) log.core in
-    let n = c.next_stint_in-next.ensures in
-    begins_same p q c.next_stint_in-next.result.stint (heard_same log.core _ _ _ p q c.in-None.ensures.heard)
-    (begins_next p c.next_stint_in-next.result.stint log.clock due.seen due.used log.used.items req.stands.used req.begun.entered
-    req.stands.clock req.begun.sight.last n.from n.seen n.used)
+    ends_by_table c.args.board.now way c.numbered-span.result c.args.seat.now log (Ran c.in-Ran.stint) c.run_at.new.seat c.run_at.new.log _
+    (clock_in_round way.outline.now (log_view log) (view_of c.args.seat.now) way.used c.len.result req.stands c.shown.ensures req.begun.entered (omega (arith, c.len.ensures)))
+    (λ plan by. c.numbered-span.ensures.span plan log.core by) c.in-Ran.ensures.ends
 
-pub returns-in-Some-hear_all : goal.returns-in-Some-hear_all
-returns-in-Some-hear_all c =
+pub returns-in-Behind : goal.returns-in-Behind
+returns-in-Behind c =
     let log : CoreLog = c.args.log.now in
-    let due : Due = c.args.due.now in
-    let o : OutlineView = due.outline.now in
+    let way = c.args.way.now in
     let req = c.requires in
-    let s = req.stands in
-    let v : View = view_of c.args.seat.now in
-    let w : View = view_of c.hear_all.new.seat in
-    let p : Part = part v log.core in
-    let stint : Stint = c.next_stint_in-next.result.stint in
-    let n = c.next_stint_in-next.ensures in
-    let begins : BeginsNext p stint = begins_next p stint log.clock due.seen due.used log.used.items s.used req.begun.entered
-    s.clock req.begun.sight.last n.from n.seen n.used in
-    let low = c.in-Some-hear_all.ensures.low in
-    let same : SameRun p (part w log.core) = low_same log.core _ _ _ _ p low.heard (part w log.core) low.near low.becomes in
-    let near = subst (λ (l : ℕ). HearsCores log.core l stint.end c.in-Some-hear_all.other.core p low.heard) c.lag-lag.ensures.lag low.near in
-    let few = slice_get_within log.used.items (log.clock / ROUND) due.used req.begun.entered in
-    let long : length log.used.items ≡ length p.entries = ap length s.used ∙ count_used p.entries in
-    let ahead = (c.shown.ensures.cores log.core s.core).timeline.ahead in
-    let place : log.clock - (c.len.result - 1) * ROUND ≡ log.clock % ROUND = omega (arith, c.len.ensures, few, long, ahead, s.clock) in
-    let span = c.in-Some.span in
-    let shown = λ (plan : PlanView) (of : ByTable due log plan).
-    subst (λ (x : ℕ). IsSpan plan log.core x span.owner span.sharers.now span.end) place (c.in-Some.ensures.span plan log.core of) in
-    record {
-      board = c.in-Some-hear_all.ensures.board;
-      log = record {
-        small = req.log.small;
-        few = req.log.few;
-        used_room = req.log.used_room;
-        stints_room = req.log.stints_room;
-      };
-      stands = stands_same o (log_view log) v w c.hear_all.new.known s c.in-Some-hear_all.ensures.changes same c.in-Some-hear_all.ensures.known;
-      same = record { core = refl; rounds = refl; keep = refl };
-      changes = c.in-Some-hear_all.ensures.changes;
-      told = λ plan of plans numbers is follows. (
-        record {
-          stint = stint;
-          next = record {
-            begins = begins;
-            follows = n.follows plan (shown plan of) plans numbers is p.stints follows.last;
-          };
-          core = omega (arith, low.core, c.cores-cores.ensures.cores);
-          other = low.other;
-          heard = low.heard;
-          near = near;
-          low = omega (arith, low.low, c.lag-lag.ensures.lag);
-          becomes = low.becomes;
-        },
-        low.exact,
-      );
-      waits = low_stays log.core _ _ _ _ p low.heard (part w log.core) low.near low.becomes;
-      goes = (
-        record {
-          end = stint.end;
-          core = omega (arith, low.core, c.cores-cores.ensures.cores);
-          other = low.other;
-          heard = low.heard;
-          near = near;
-          low = omega (arith, low.low, c.lag-lag.ensures.lag);
-          becomes = low.becomes;
-        },
-        low.exact,
-      );
-      plans = λ plan of plans numbers is follows.
-          plans_same _ (log_view log) _ p (part w log.core) refl refl refl same.stints follows;
-    }
-
-pub returns-in-None : goal.returns-in-None
-returns-in-None c =
-    let log : CoreLog = c.args.log.now in
-    let due : Due = c.args.due.now in
-    let o : OutlineView = due.outline.now in
-    let req = c.requires in
-    let s = req.stands in
-    let v : View = view_of c.args.seat.now in
-    let u : View = view_of c.hear_all.new.seat in
-    let p : Part = part v log.core in
-    let q : Part = part u log.core in
-    let stint : Stint = c.next_stint_in-next.result.stint in
-    let n = c.next_stint_in-next.ensures in
-    let begins : BeginsNext p stint = begins_next p stint log.clock due.seen due.used log.used.items s.used req.begun.entered
-    s.clock req.begun.sight.last n.from n.seen n.used in
-    let hs = heard_same log.core _ _ _ p q c.in-None.ensures.heard in
-    let near = hears_same log.core c.lag-lag.result o.lag stint.end c.cores-cores.result o.cores p q c.lag-lag.ensures.lag c.cores-cores.ensures.cores c.in-None.ensures.heard in
-    let t = c.note_counts.ensures in
-    let full : nat_lt (length log.stints.items) log.keep ≡ false = le-ltb (length log.stints.items) log.keep (let f = c.if-keeps.false in omega (arith, c.len-2.ensures)) in
-    let few = slice_get_within log.used.items (log.clock / ROUND) due.used req.begun.entered in
-    let long : length log.used.items ≡ length p.entries = ap length s.used ∙ count_used p.entries in
-    let ahead = (c.shown.ensures.cores log.core s.core).timeline.ahead in
-    let place : log.clock - (c.len.result - 1) * ROUND ≡ log.clock % ROUND = omega (arith, c.len.ensures, few, long, ahead, s.clock) in
-    let span = c.in-Some.span in
-    let shown = λ (plan : PlanView) (of : ByTable due log plan).
-    subst (λ (x : ℕ). IsSpan plan log.core x span.owner span.sharers.now span.end) place (c.in-Some.ensures.span plan log.core of) in
-    record {
-      board = c.advance.ensures.board;
-      log = record {
-        small = omega (arith, t.same.0, req.log.small);
-        few = omega (arith, t.same.1, req.log.few);
-        used_room = omega (arith, t.same.1, t.used.1, req.log.used_room);
-        stints_room = omega (arith, t.same.2, t.room, req.log.stints_room);
-      };
-      stands = stands_ran o (record (log_view log) { known = c.hear_all.new.known }) (log_view c.note_counts.new.log) u _ stint c.next_stint_in-next.result.shared due.seen
-          (stands_same o (log_view log) v u c.hear_all.new.known s c.in-None.ensures.changes (run_of_same p q hs) c.in-None.ensures.known)
-          req.begun.unfinished (heard_seen o due.seen p q hs req.begun.sight)
-          (begins_same p q stint hs begins)
-          n.some n.in_round c.advance.ensures.changes c.advance.ensures.becomes t.same.0 t.same.1 t.same.2 t.clock t.used.0 (t.stints ∙ sym (ap (λ (b : Bool). cond b (log.stints.items ++ stint ∷ []) log.stints.items) full)) t.account t.known;
-      same = record { core = t.same.0; rounds = t.same.1; keep = t.same.2 };
-      changes = changes_more v u _ log.core c.in-None.ensures.changes c.advance.ensures.changes;
-      told = λ plan of plans numbers is follows. record {
-        next = record {
-          begins = begins;
-          follows = n.follows plan (shown plan of) plans numbers is p.stints follows.last;
-        };
-        heard = q;
-        near = near;
-        becomes = c.advance.ensures.becomes;
-      };
-      waits = search rules;
-      goes = record {
-        begins = begins;
-        some = n.some;
-        heard = q;
-        near = near;
-        becomes = c.advance.ensures.becomes;
-      };
-      plans = λ plan of plans numbers is follows.
-          let course : CourseView = with_plans o plans numbers in
-          let heard : FollowsPlans course (log_view log) q = plans_same course (log_view log) (log_view log) p q refl refl refl hs.stints follows in
-          subst (FollowsPlans course (log_view c.note_counts.new.log)) (sym c.advance.ensures.becomes)
-          (plans_ran course (log_view log) (log_view c.note_counts.new.log) q stint c.next_stint_in-next.result.shared heard
-          (n.follows plan (shown plan of) plans numbers is q.stints heard.last) (n.shared plan (shown plan of) plans numbers is) t.same.0
-          (t.last ∙ (sym n.picked ∙ n.last plan (shown plan of) plans numbers is)) t.account);
-    }
+    ends_by_table c.args.board.now way c.numbered-span.result c.args.seat.now log (Behind c.in-Behind.core c.in-Behind.tick) c.run_at.new.seat
+    c.run_at.new.log _
+    (clock_in_round way.outline.now (log_view log) (view_of c.args.seat.now) way.used c.len.result req.stands c.shown.ensures req.begun.entered (omega (arith, c.len.ensures)))
+    (λ plan by. c.numbered-span.ensures.span plan log.core by) c.in-Behind.ensures.ends

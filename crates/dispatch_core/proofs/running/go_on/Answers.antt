@@ -12,8 +12,8 @@ use Rattle.dispatch_core.proofs.StateLemmas.{plans_same}
 use Rattle.dispatch_core.proofs.ToldLemmas.{lacks_event, low_told, sees_same}
 use Rattle.dispatch_core.proofs.running.go_on.Goals as goal
 
-pub run_at-requires-clause-due : goal.run_at-requires-clause-due
-run_at-requires-clause-due c =
+pub run_at-requires-clause-to_end : goal.run_at-requires-clause-to_end
+run_at-requires-clause-to_end c =
     let v : View = view_of c.args.seat.now in
     let u : View = view_of c.see-seen.new.seat in
     let o : OutlineView = c.args.way.now.outline.now in

@@ -41,6 +41,13 @@ running-preserved g c =
     let number : ℕ = c.number_behind-number.result in
     let on : kept.clock ≤ c.min-last.result = c.running-test.true in
     let place : kept.clock - start ≡ kept.clock % ROUND = omega (arith, i.begin, i.last, i.from, on) in
+    let began : (part v s.core).clock ≤ c.args.limit = omega (
+      arith,
+      on,
+      i.bound,
+      i.stands.clock,
+      ap (λ (core : ℕ). (part v core).clock) i.same.core,
+    ) in
     let end : stint.end ≤ start + span.end = omega (arith, e.ends.0, place, i.from) in
     record {
       board = e.board;
@@ -48,10 +55,12 @@ running-preserved g c =
       stands = e.stands;
       same = same_on o s t u v w i.same e.changes n e.same;
       changes = changes_on o s t u v w i.same e.changes i.changes;
-      told = steps_on o s t u v w i.same e.changes c.go_on.result c.go_on.ensures.goes i.told;
+      told = (let made = steps_on o s t u v w i.same e.changes c.go_on.result c.go_on.ensures.goes (i.told.0, i.told.1) in
+          (made.0, made.1, began));
       used = e.used ∙ i.used;
       begin = i.begin;
       last = i.last;
+      bound = i.bound;
       from = omega (arith, i.from, e.later);
       small = dite (ℕ_discrete stint.end (start + span.end))
           (λ at. (let is = next.ended at in omega (arith, is, shows.small)))
@@ -84,6 +93,13 @@ returns-in-Behind g c =
     let span = c.numbered-span.result in
     let on : kept.clock ≤ c.min-last.result = c.running-test.true in
     let place : kept.clock - start ≡ kept.clock % ROUND = omega (arith, i.begin, i.last, i.from, on) in
+    let began : (part v s.core).clock ≤ c.args.limit = omega (
+      arith,
+      on,
+      i.bound,
+      i.stands.clock,
+      ap (λ (core : ℕ). (part v core).clock) i.same.core,
+    ) in
     let long : length kept.used.items ≡ length (part v kept.core).entries = ap length i.stands.used ∙ count_used (part v kept.core).entries in
     let there = slice_get_within c.args.log.now.used.items (length c.args.log.now.used.items - 1) c.args.way.now.used c.requires.used in
     let unfinished : kept.clock < kept.rounds * ROUND = omega (arith, i.begin, i.last, on, there, ap length i.used, long, i.stands.timely.in_rounds) in
@@ -98,8 +114,8 @@ returns-in-Behind g c =
       stands = e.stands;
       same = same_on o s t u v w i.same e.changes n e.same;
       changes = changes_on o s t u v w i.same e.changes i.changes;
-      told = (let made = steps_on o s t u v w i.same e.changes c.go_on.result e.goes i.told in
-          record { count = made.0; steps = made.1; stops = inr (inr waits) });
+      told = (let made = steps_on o s t u v w i.same e.changes c.go_on.result e.goes (i.told.0, i.told.1) in
+          record { count = made.0; steps = made.1; began = began; stops = inr (inr waits) });
       plans = λ plan of plans numbers is follows.
           let is_table : IsTableOf plan kept.core c.args.way.now.table.now = subst (λ (k : ℕ). IsTableOf plan k c.args.way.now.table.now) (sym i.same.core) of in
           let shown = subst (λ (x : ℕ). IsSpan plan kept.core x span.owner span.sharers.now span.end) place (c.numbered-span.ensures.span plan kept.core is_table) in

@@ -30,7 +30,7 @@ finish-requires g c κs =
         (
           actor_on b was new of e.same.core,
           (
-            agrees_on b c.outline.result.now old new v u c.outline.ensures agrees e.stands e.same.core e.plans,
+            agrees_on b c.outline.result.now old new v u c.outline.ensures agrees e.stands e.same.core (λ course live. e.plans course),
             (subst (λ (o : OutlineView). HasBegun o new u c.in-At.seen c.in-At.used) c.outline.ensures e.told.1, (c.requires.shelf, kept)),
           ),
         ),
@@ -45,7 +45,7 @@ returns-in-Finished-clause-agrees g c =
     let agrees : LiveAgrees b c.actor.inside.state v =
     subst (λ (a : LiveActorView). LiveAgrees b a.state v) (sym c.actor.view_is) c.requires.agrees in
     agrees_on b c.outline.result.now c.actor.inside.state c.begin_step.new.state v (view_of c.begin_step.new.seat) c.outline.ensures
-    agrees e.stands e.same.core e.plans
+    agrees e.stands e.same.core (λ course live. e.plans course)
 
 pub returns-in-Behind-clause-agrees : goal.returns-in-Behind-clause-agrees
 returns-in-Behind-clause-agrees g c =
@@ -55,7 +55,7 @@ returns-in-Behind-clause-agrees g c =
     let agrees : LiveAgrees b c.actor.inside.state v =
     subst (λ (a : LiveActorView). LiveAgrees b a.state v) (sym c.actor.view_is) c.requires.agrees in
     agrees_on b c.outline.result.now c.actor.inside.state c.begin_step.new.state v (view_of c.begin_step.new.seat) c.outline.ensures
-    agrees e.stands e.same.core e.plans
+    agrees e.stands e.same.core (λ course live. e.plans course)
 
 pub returns-in-Behind-clause-told : goal.returns-in-Behind-clause-told
 returns-in-Behind-clause-told g c =

@@ -1,12 +1,30 @@
 use Rattle.std.proofs.Common.{◌≡◌, ℕ, sym, ap, ◌∙◌, subst, arith}
+use Rattle.table_form.specs.Running.Courses.{CourseView, FitsRounds, plan_after, plan_number_after}
 use Rattle.round_words.specs.declared.view.View.{View}
 use Rattle.round_words.specs.Seats.{view_of}
 use Rattle.round_words.specs.Views.{part}
 use Rattle.crew_turns.specs.Going.{PartsGoOn}
 use Rattle.dispatch_core.specs.States.{ActorView, actor_view}
+use Rattle.dispatch_core.proofs.StateLemmas.{agrees_ended}
 use Rattle.core_workers.specs.Actors.{CoreAgrees}
 use Rattle.core_workers.proofs.Causes.{steps_parts}
 use Rattle.core_workers.proofs.member.MemberStepper.run_on.Goals as goal
+
+pub returns-clause-agrees : goal.returns-clause-agrees
+returns-clause-agrees g c =
+    let course : CourseView = c.self.inside.course.now in
+    let s = c.self.inside.state in
+    let v : View = view_of c.args.seat.now in
+    let used : ℕ = c.in-Some.used in
+    let old : CoreAgrees (actor_view course s) v = subst (λ (x : ActorView). CoreAgrees x v) (sym c.self.view_is) c.requires.agrees in
+    let of = c.self.invariant.0.each (plan_number_after course used) c.table_after-table.result.now c.table_after-table.ensures in
+    let e = c.run_on.ensures in
+    record {
+      course_kept = old.course_kept;
+      fits = subst (FitsRounds course) (sym e.same.rounds) old.fits;
+      agrees = agrees_ended course c.outline-outline.result.now used s c.run_on.new.state v (view_of c.run_on.new.seat) c.outline-outline.ensures.outline
+          old.agrees e.stands e.same.core (e.plans (plan_after course used) of);
+    }
 
 pub returns-clause-parts : goal.returns-clause-parts
 returns-clause-parts g c =

@@ -1,7 +1,7 @@
-use Rattle.std.proofs.Common.{ℕ, List, subst, sym}
+use Rattle.std.proofs.Common.{List, subst}
 use Rattle.slice_table.specs.declared.full_span.FullSpan.{FullSpan}
 use Rattle.slice_table.specs.Inside.Spans.{IsSliced}
-use Rattle.slice_table.specs.Slices.{MeetsTwo, ends_of}
+use Rattle.slice_table.specs.Slices.{ends_of}
 use Rattle.slice_table.proofs.EndsLemmas.{meets_two, sliced_by}
 use Rattle.slice_table.proofs.slice_table.SliceTable.slices.Goals as goal
 
