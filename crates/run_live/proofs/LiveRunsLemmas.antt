@@ -1,6 +1,6 @@
 -- A live run: how it begins, and what its actors tell of the state as which its view reads.
-use Rattle.std.proofs.Common.{◌≡◌, false, ℕ, suc, ◌+◌, ◌*◌, ◌<◌, ◌≤◌, List, [], ◌∷◌, ◌++◌, length, Option, None, Some, Result, Ok, Err, refl, sym, ap, ◌∙◌, subst, arith}
-use Rattle.std.specs.Prelude.{IfOk, is_some, slice_get, slice_index, take}
+use Rattle.std.proofs.Common.{◌≡◌, ℕ, suc, ◌+◌, ◌*◌, ◌<◌, ◌≤◌, List, [], ◌∷◌, ◌++◌, length, Option, None, Some, refl, sym, ap, ◌∙◌, subst, arith}
+use Rattle.std.specs.Prelude.{slice_get, slice_index, take}
 use Rattle.std.proofs.Math.Seq.{take-suc}
 use Rattle.std.proofs.lemmas.List.{length-map}
 use Rattle.std.proofs.lemmas.Option.{get_or_from_slice_get, slice_get_within}
@@ -40,18 +40,9 @@ use Rattle.live_plan.specs.Crews.{HoldsLiveCrew, IsCrewOf, LiveCrewAgrees, LiveC
 use Rattle.live_plan.specs.Players.{MemberView, live_core_kind, live_lead_kind}
 use Rattle.live_plan.proofs.CoursesLemmas.{live_course}
 use Rattle.live_plan.proofs.CrewsLemmas.{held_crew, run, member_of}
+use Rattle.run_live.specs.Inside.Readies.{LiveCrewHasRun}
 use Rattle.run_live.specs.Inside.Telling.{AreLiveRunAccounts, accounts_of, live_first_used, live_used_in}
 use Rattle.run_live.specs.LiveRuns.{RunsSoFar}
-
--- what is not something is nothing
-pub is_none : (o : Option ℕ) → is_some o ≡ false → o ≡ None
-is_none None is = refl
-is_none (Some x) is = absurd cc
-
--- what is fine stays so where one thing follows from another
-pub ok_more : {A E : Type 0} {P Q : A → Type 0} (r : Result A E) → ((a : A) → P a → Q a) → IfOk r P → IfOk r Q
-ok_more (Ok a) f p = f a p
-ok_more (Err e) f p = p
 
 -- ---- the beginning
 
@@ -225,3 +216,9 @@ module _ (b : LiveView) (crew : LiveCrewView) (v : View) (is : IsCrewOf b crew) 
         are = accounts_are;
         is = subst (λ (used : List ℕ). IsReportOf course used (accounts_of (actors_of crew)) report) first_decided told;
       }
+
+-- the view that a crew leaves which ran, however far it came, is of a run so far
+pub ran_so_far : (b : LiveView) (host : Host) (events : List Event) (rounds : ℕ) (crew : LiveCrewView) (v : View) (stopped : Option ℕ)
+    → IsLiveBookOf host events b → LiveCrewHasRun b rounds crew v stopped → RunsSoFar rounds host events v
+ran_so_far b host events rounds crew v stopped of r = runs_so_far b crew v r.crew_of r.agree r.holds host events rounds of
+    (λ course kept live. subst (λ (n : ℕ). KeepsPromises course n (state_of course v)) r.rounds_are (r.promises course kept live))

@@ -6,7 +6,7 @@ ghost use Rattle.round_words.specs.Views.{unstarted};
 ghost use Rattle.round_words.specs.declared.view.View.{View};
 ghost use Rattle.core_workers.specs.Crews.{IsNewView};
 ghost use Rattle.live_plan.specs.Books.{IsLiveBookOf};
-ghost use Rattle.live_plan.specs.Crews.{IsCrewOf, LiveCrewAgrees, bare};
+ghost use Rattle.live_plan.specs.Crews.{IsCrewOf, LiveCrewAgrees, actors_of, bare};
 ghost use Rattle.run_live.specs.Inside.Readies.{HasRoomToTell, IsLiveReady, LiveActorsHaveRun, LiveCrewHasRun};
 ghost use Rattle.run_live.specs.LiveRuns.{IsLiveRunOf, LeavesView};
 
@@ -88,9 +88,11 @@ pub fn run_script<R: Threads + Wait + Sync, G: Gate>(
     let Ok(crew) = crew_for(rt, alloc, host, script, rounds, &live) else {
         return Err((seat, LiveFault::NotBegun(PlanFault::NoMemory)));
     };
-    let (seat, crew, stopped) = run_ready(rt, alloc, &live, crew, rounds, board, seat, gate);
-    let actors = crew.into_actors(alloc);
-    match ran_of(alloc, host, script, rounds, live, actors, &seat, stopped) {
+    let (seat, crew, stopped) = run_ready(rt, alloc, &live, crew, board, seat, gate);
+    let Ok(actors) = whole_actors(alloc, crew, stopped) else {
+        return Err((seat, LiveFault::Stopped));
+    };
+    match told(alloc, host, script, rounds, live, &actors, &seat) {
         Ok(ran) => Ok((seat, ran)),
         Err(_) => Err((seat, LiveFault::Stopped)),
     }
@@ -102,45 +104,34 @@ fn run_ready<'a, R: Threads + Wait + Sync, G: Gate>(
     alloc: Global,
     live: &'a LiveBook,
     crew: LiveCrew<'a>,
-    rounds: u32,
     board: &RoundBoard,
     mut seat: RoundSeat,
     gate: &G,
 ) -> (RoundSeat, LiveCrew<'a>, Option<u32>)
     requires crew { IsCrewOf live.now crew }
-    requires rounds { crew.rounds ≡ rounds }
     requires agree { (v : View) → IsNewView (bare live.now) v → LiveCrewAgrees live.now crew v }
     requires board { IsSeatOf board.now seat }
     requires opening { view_of seat ≡ unstarted }
     ensures board { IsSeatOf board.now result.0 }
-    ensures ran { LiveCrewHasRun live.now rounds result.1 (view_of result.0) result.2 }
+    ensures ran { LiveCrewHasRun live.now crew.entry.rounds result.1 (view_of result.0) result.2 }
 {
     let outline = live.outline();
     board.start(&mut seat, outline.lag(), outline.cores(), outline.count());
     run_live(rt, alloc, board, seat, crew, live, gate)
 }
 
-// The run that was made, if memory didn't run out for a change or for the actors, and doesn't for what is reported.
-fn ran_of(
+// The actors of a run that came to its end, which it does where memory runs out for no change.
+fn whole_actors(
     alloc: Global,
-    host: &Host,
-    script: &Script,
-    rounds: u32,
-    live: LiveBook,
-    actors: Result<Vec<LiveActor>, NoMemory>,
-    seat: &RoundSeat,
+    crew: LiveCrew<'_>,
     stopped: Option<u32>,
-) -> Result<Ran, NoMemory>
-    requires within { AreWithin (length host.now.vcpus) script.now }
-    requires few { rounds ≤ MAX_ROUNDS }
-    requires live { IsLiveBookOf host.now script.now live }
-    requires ran { IfOk actors (λ actors. LiveActorsHaveRun live rounds actors.items (view_of seat.now) stopped) }
-    ensures { IfOk result (IsLiveRunOf rounds host.now script.now (view_of seat.now)) }
+) -> Result<Vec<LiveActor>, NoMemory>
+    ensures { IfOk result (λ actors. (stopped ≡ None) × (actors.items ≡ actors_of crew.entry)) }
 {
-    if stopped.is_some() {
-        return Err(AllocError);
+    match stopped {
+        None => crew.into_actors(alloc),
+        Some(_) => Err(AllocError),
     }
-    told(alloc, host, script, rounds, live, &actors?, seat)
 }
 
 // The run that was made, with what its actors tell of it.
@@ -156,7 +147,7 @@ fn told(
     requires within { AreWithin (length host.now.vcpus) script.now }
     requires few { rounds ≤ MAX_ROUNDS }
     requires live { IsLiveBookOf host.now script.now live }
-    requires ran { LiveActorsHaveRun live rounds actors.now (view_of seat.now) None }
+    requires ran { LiveActorsHaveRun live rounds actors.now (view_of seat.now) }
     ensures { IfOk result (IsLiveRunOf rounds host.now script.now (view_of seat.now)) }
 {
     let (book, changes, mut report) = room_to_tell(alloc, live, host, script, rounds)?;

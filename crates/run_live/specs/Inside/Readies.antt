@@ -1,5 +1,5 @@
 -- What a live run begins with, what it comes to, and what it is reported with.
-use Rattle.std.specs.Prelude.{◌≡◌, ℕ, IfNone, List, Option, Some, length}
+use Rattle.std.specs.Prelude.{◌≡◌, ℕ, IfNone, List, Option, None, Some, length}
 use Rattle.tab_core.specs.declared.host.Host.{Host}
 use Rattle.script_doc.specs.declared.event.Event.{Event}
 use Rattle.table_form.specs.Running.Courses.{CourseView, IsCourse}
@@ -40,10 +40,10 @@ pub record LiveCrewHasRun (b : LiveView) (rounds : ℕ) (crew : LiveCrewView) (v
   pub counts : IfNone stopped ((course : CourseView) → IsLiveCourse b course → (c : ℕ) (a : LiveActorView)
       → live_actor_of crew c ≡ Some a → a.state.used ≡ (state_of course view).decided)
 
--- these are the cores' actors of a crew that ran so
-pub record LiveActorsHaveRun (b : LiveView) (rounds : ℕ) (actors : List LiveActorView) (view : View) (stopped : Option ℕ) : Type 0 where
+-- these are the cores' actors of a crew that ran so to the end
+pub record LiveActorsHaveRun (b : LiveView) (rounds : ℕ) (actors : List LiveActorView) (view : View) : Type 0 where
   pub crew : LiveCrewView
-  pub ran : LiveCrewHasRun b rounds crew view stopped
+  pub ran : LiveCrewHasRun b rounds crew view None
   pub are : actors ≡ actors_of crew
 
 -- the book and the changes are the script's for the host, and the report has room for a run of so many rounds

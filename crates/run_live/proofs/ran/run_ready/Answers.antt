@@ -17,7 +17,7 @@ returns-clause-ran g c =
     let r = c.run_live.ensures in
     record {
       crew_of = r.crew;
-      rounds_are = r.rounds ∙ c.requires.rounds;
+      rounds_are = r.rounds;
       agree = r.agree;
       holds = r.holds;
       kept = r.kept;

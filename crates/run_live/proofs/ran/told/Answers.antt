@@ -1,7 +1,6 @@
-use Rattle.std.proofs.Common.{◌≡◌, ℕ, List, sym, subst}
+use Rattle.std.proofs.Common.{◌≡◌, ℕ, List, None, sym, subst}
 use Rattle.table_form.specs.Running.Courses.{CourseView, IsCourse}
 use Rattle.table_form.specs.Running.Complete.{IsComplete}
-use Rattle.table_form.specs.Promises.Run.{KeepsPromises}
 use Rattle.plan_book.specs.Courses.{IsCourseOf}
 use Rattle.round_words.specs.declared.view.View.{View}
 use Rattle.round_words.specs.Seats.{view_of}
@@ -12,7 +11,7 @@ use Rattle.live_plan.specs.Courses.{IsLiveCourse}
 use Rattle.live_plan.specs.Actors.{LiveActorView}
 use Rattle.live_plan.specs.Crews.{actors_of}
 use Rattle.run_live.specs.Inside.Telling.{AreLiveRunAccounts, accounts_of, live_first_used}
-use Rattle.run_live.proofs.LiveRunsLemmas.{are_told, report_of, runs_so_far}
+use Rattle.run_live.proofs.LiveRunsLemmas.{are_told, ran_so_far, report_of}
 use Rattle.run_live.proofs.ran.told.Goals as goal
 
 pub tell-requires-clause-told : goal.tell-requires-clause-told
@@ -49,8 +48,7 @@ returns c =
       book = room.book_is;
       course_kept = kept;
       changes = room.changes_are;
-      so_far = runs_so_far b crew v r.crew_of r.agree r.holds c.args.host.now c.args.script.now c.args.rounds c.requires.live
-          (λ k is l. subst (λ (n : ℕ). KeepsPromises k n (state_of k v)) same (r.promises k is l));
+      so_far = ran_so_far b c.args.host.now c.args.script.now c.args.rounds crew v None c.requires.live r;
       complete = subst (λ (n : ℕ). IsComplete course n (state_of course v)) same (r.complete course live);
       report = report_of b crew v r.crew_of r.agree r.holds course live (r.kept course live) (r.complete course live) kept c.shown.ensures
           (r.counts course live) c.tell.new.report told;
