@@ -53,15 +53,6 @@ actors_met mask v left own x y w is is' one two joined = subst (SameActors v) (s
     by true m v a e = ap₂ (λ (b c : Bool). b || c) (without_named m v a e) (only_named m v a e).0
     by false m v a e = ap₂ (λ (b c : Bool). b || c) (without_others m v a e).0 (only_others m v a e) ∙ or_none (holds v a)
 
--- views of one board stay so where a seat is parted and meets its parts again
-pub board_met : (mask : ℕ) (v left own x y : View) → left ≡ without mask v → own ≡ only mask v → SameActors left x → SameActors own y → IsSameBoard x y
-board_met mask v left own x y is is' one two = record {
-  started = two.started ∙ (ap (λ (z : View). z.started) is' ∙ sym (one.started ∙ ap (λ (z : View). z.started) is));
-  lag = two.lag ∙ (ap (λ (z : View). z.lag) is' ∙ sym (one.lag ∙ ap (λ (z : View). z.lag) is));
-  cores = two.cores ∙ (ap (λ (z : View). z.cores) is' ∙ sym (one.cores ∙ ap (λ (z : View). z.cores) is));
-  events = two.events ∙ (ap (λ (z : View). z.events) is' ∙ sym (one.events ∙ ap (λ (z : View). z.events) is));
-}
-
 -- the mask of core n alone
 pub mask_is : (k n : ℕ) → k ≡ n → n < 32 → 1 * 2 ^ k % 18446744073709551616 ≡ 2 ^ n
 mask_is k n e lt = (one_shifted k 18446744073709551615 refl (omega (arith, e, lt))).0 ∙ ap (λ (i : ℕ). 2 ^ i) e

@@ -37,9 +37,6 @@ module _ {C : Type 0} (core : Kind C) (laws : IsLawful core) (short : (a : C) (v
   held_now : holds v c ≡ true
   held_now = there.3
 
-  pub agrees_now : core.agrees now.actor v
-  agrees_now = agree c now at held_now
-
   pub clock_now : slice_index ticks c ≡ core.place now.actor
   clock_now = there.4 ∙ ap (λ (p : Player C). core.place p.actor) there_is
 

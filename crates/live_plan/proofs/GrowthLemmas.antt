@@ -43,8 +43,3 @@ same_push (a ∷ xs) (b ∷ ys) (suc i) x at at' is =
 pub same_more : {X : Type 0} (xs ys : List X) (i : ℕ) (x : X) → slice_get xs i ≡ Some x → slice_get ys i ≡ Some x
     → take i xs ≡ take i ys → take (i + 1) xs ≡ take (i + 1) ys
 same_more xs ys i x at at' is = let next : i + 1 ≡ suc i = omega arith in rw next (same_push xs ys i x at at' is)
-
--- two lists are one if they are one up to their end
-pub same_whole : {X : Type 0} (xs ys : List X) (n : ℕ) → n ≡ length xs → length xs ≡ length ys → take n xs ≡ take n ys → xs ≡ ys
-same_whole xs ys n end same is = sym (take-length xs) ∙ ap (λ (k : ℕ). take k xs) (sym end) ∙ is
-    ∙ ap (λ (k : ℕ). take k ys) (end ∙ same) ∙ take-length ys

@@ -1,4 +1,4 @@
-use Rattle.std.proofs.Common.{◌≡◌, sym, ap, ◌∙◌, subst}
+use Rattle.std.proofs.Common.{◌≡◌, sym, ap, ◌∙◌, subst, rules}
 use Rattle.round_words.specs.declared.view.View.{View}
 use Rattle.round_words.specs.Seats.{view_of}
 use Rattle.crew_turns.specs.declared.stepper.Turn.{Turn}
@@ -9,16 +9,8 @@ use Rattle.core_workers.proofs.ActorLemmas.{core_goes, core_told, core_turn}
 use Rattle.core_workers.proofs.member.MemberStepper.step.Goals.{in-Ran, in-Behind, in-Finished}
 use Rattle.core_workers.proofs.member.MemberStepper.step.Goals as goal
 
-pub returns-clause-parts : goal.returns-clause-parts
-returns-clause-parts c =
-    let a : ActorView = actor_view c.self.inside.course.now c.self.inside.state in
-    let v : View = view_of c.args.seat.now in
-    let agrees : CoreAgrees a v = subst (λ (x : ActorView). CoreAgrees x v) (sym c.self.view_is) c.requires.agrees in
-    let e = c.step_state.ensures in
-    core_goes a c.step_state.new.state v (view_of c.step_state.new.seat) c.step_state.result agrees e.agrees e.same e.changes e.told
-
-pub returns-clause-told : goal.returns-clause-told
-returns-clause-told c =
+pub returns : goal.returns
+returns c =
     let a : ActorView = actor_view c.self.inside.course.now c.self.inside.state in
     let b : ActorView = actor_view c.self.inside.course.now c.step_state.new.state in
     let v : View = view_of c.args.seat.now in
@@ -31,4 +23,12 @@ returns-clause-told c =
       | in-Behind z ↦ ap core_turn z.in-Behind.is ∙ sym z.result-is
       | in-Finished z ↦ ap core_turn z.in-Finished.is ∙ sym z.result-is
     ] in
-    subst (λ (x : ActorView). Stepped core_kind x v c.match-step_state.result b w) c.self.view_is (subst (λ (t : Turn). Stepped core_kind a v t b w) turn told)
+    record {
+      board = e.board;
+      agrees = search rules;
+      same = search rules;
+      changes = search rules;
+      parts = core_goes a c.step_state.new.state v w c.step_state.result agrees e.agrees e.same e.changes e.told;
+      told = subst (λ (x : ActorView). Stepped core_kind x v c.match-step_state.result b w) c.self.view_is
+          (subst (λ (t : Turn). Stepped core_kind a v t b w) turn told);
+    }
