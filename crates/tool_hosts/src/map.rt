@@ -1,20 +1,23 @@
 use std::alloc::Global;
-use std::collections::BTreeSet;
+use std::collections::{BTreeMap, BTreeSet};
 use tab_core::{Name, Vcpu};
 use tab_words::{Lines, Words, read_number};
 use tool_input::{Fault, Input, ends_in_return, input_of, shown};
 
-/// The name of a vCPU, and the name that it has for the scheduler of a host.
+// The name of a vCPU, and the name that it has for the scheduler of a host.
 #[derive(Drop)]
-pub(crate) struct Renaming {
-    from: Name,
+struct Renaming {
+    from: Vec<u8>,
     to: Name,
 }
 
-/// The lines `NAME GUEST N` of a map, of which each names vCPU N of a guest. A line without words and one that begins with
-/// `#` are passed over. There are none where no map is named.
-pub(crate) fn renamings_of(rt: &HostRuntime, path: Option<&str>) -> Result<Vec<Renaming>, Fault> {
-    let mut renamings = Vec::new(rt.alloc());
+/// The lines `NAME GUEST N` of a map, of which each names vCPU N of a guest: by a vCPU's name the one that it has for the
+/// scheduler. A line without words and one that begins with `#` are passed over. There are none where no map is named.
+pub(crate) fn renamings_of(
+    rt: &HostRuntime,
+    path: Option<&str>,
+) -> Result<BTreeMap<Vec<u8>, Name, Global>, Fault> {
+    let mut renamings = BTreeMap::new(rt.alloc());
     let Some(path) = path else {
         return Ok(renamings);
     };
@@ -25,11 +28,11 @@ pub(crate) fn renamings_of(rt: &HostRuntime, path: Option<&str>) -> Result<Vec<R
         if line.starts_with(b"#") || Words::of(line).next().is_none() {
             continue;
         }
-        match renaming_of(rt.alloc(), line)? {
-            Some(renaming) if !is_renamed(&renamings, renaming.from.bytes()) => {
-                renamings.push(renaming)?;
-            }
-            _ => return Err(bad_line(rt.alloc(), place, number, line)),
+        let Some(Renaming { from, to }) = renaming_of(rt.alloc(), line)? else {
+            return Err(bad_line(rt.alloc(), place, number, line));
+        };
+        if renamings.insert(from, to)?.is_some() {
+            return Err(bad_line(rt.alloc(), place, number, line));
         }
     }
     Ok(renamings)
@@ -70,7 +73,7 @@ fn renaming_of(alloc: Global, line: &[u8]) -> Result<Option<Renaming>, Fault> {
         return Ok(None);
     }
     Ok(Some(Renaming {
-        from: name_of(alloc, from)?,
+        from: from.to_vec(alloc)?,
         to: name_of(alloc, &to)?,
     }))
 }
@@ -83,26 +86,22 @@ fn name_of(alloc: Global, bytes: &[u8]) -> Result<Name, Fault> {
     }
 }
 
-fn is_renamed(renamings: &[Renaming], name: &[u8]) -> bool {
-    renamings
-        .iter()
-        .any(|renaming| renaming.from.bytes() == name)
-}
-
 // The name that a vCPU has for the scheduler.
-fn name_for(alloc: Global, renamings: &[Renaming], name: &[u8]) -> Result<Name, Fault> {
-    for renaming in renamings {
-        if renaming.from.bytes() == name {
-            return name_of(alloc, renaming.to.bytes());
-        }
+fn name_for(
+    alloc: Global,
+    renamings: &BTreeMap<Vec<u8>, Name, Global>,
+    name: &[u8],
+) -> Result<Name, Fault> {
+    match renamings.get(name) {
+        Some(to) => name_of(alloc, to.bytes()),
+        None => name_of(alloc, name),
     }
-    name_of(alloc, name)
 }
 
 /// Gives vCPUs the names that they have for the scheduler, of which no two may be one.
 pub(crate) fn rename(
     alloc: Global,
-    renamings: &[Renaming],
+    renamings: &BTreeMap<Vec<u8>, Name, Global>,
     names: &mut Vec<Name>,
 ) -> Result<(), Fault> {
     for at in 0..names.len() {
@@ -123,7 +122,7 @@ pub(crate) fn rename(
 /// The vCPUs of a host by the names that they have for the scheduler.
 pub(crate) fn renamed(
     alloc: Global,
-    renamings: &[Renaming],
+    renamings: &BTreeMap<Vec<u8>, Name, Global>,
     vcpus: &[Vcpu],
 ) -> Result<Vec<Vcpu>, Fault> {
     let mut all = Vec::new(alloc);
