@@ -16,7 +16,7 @@ use Rattle.table_form.specs.Tables.Spots.{IsAway, IsSpanEnd, SameSpot}
 use Rattle.table_form.proofs.RowLemmas.{cell_here, cells-cons, length-cells_from, rises_none, rises_parts}
 use Rattle.table_form.proofs.SegmentLemmas.{maximal_end, maximal_of_row}
 use Rattle.table_form.proofs.SpotLemmas.{owner_read, owner_within}
-use Rattle.slice_table.specs.declared.entry_list.SpanEntry.{SpanEntry}
+use Rattle.slice_table.specs.declared.span_list.SpanEntry.{SpanEntry}
 use Rattle.slice_table.specs.declared.full_span.FullSpan.{FullSpan}
 use Rattle.slice_table.specs.declared.own_spans.TheConstants.{NONE}
 use Rattle.slice_table.specs.declared.scope.Scope.{Scope}

@@ -6,7 +6,7 @@ use Rattle.std.proofs.lemmas.List.{get_or_append_left}
 use Rattle.std.proofs.lemmas.List.Elements.{All-head, All-tail}
 use Rattle.slice_table.specs.declared.full_span.FullSpan.{FullSpan}
 use Rattle.slice_table.specs.declared.span_list.Shown.{Shown}
-use Rattle.slice_table.specs.declared.entry_list.SpanEntry.{SpanEntry}
+use Rattle.slice_table.specs.declared.span_list.SpanEntry.{SpanEntry}
 use Rattle.slice_table.specs.Inside.SpanLists.{shown_at, span_of, span_with}
 use Rattle.slice_table.specs.Slices.{ends_of}
 

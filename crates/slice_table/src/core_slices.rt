@@ -103,14 +103,14 @@ impl SliceTable {
         if self.holds(guess, tick) {
             return guess;
         }
-        self.number_behind(tick, guess)
+        self.number_sought(tick, guess)
     }
 
     // The number of the span that holds the tick, where the guess is wrong. It is a function of its own, so that
     // the way of a right guess is short.
     #[cold]
     #[inline(never)]
-    fn number_behind(&self, tick: u32, guess: usize) -> usize
+    fn number_sought(&self, tick: u32, guess: usize) -> usize
         requires tick { tick < ROUND }
         requires small { guess < 2 ^ 32 }
         ensures holds { HoldsTick (ends_of self.now) result tick }

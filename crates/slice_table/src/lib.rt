@@ -7,7 +7,6 @@
 
 mod core_slices;
 mod cursor;
-mod entry_list;
 mod full_span;
 mod own_spans;
 mod owners;

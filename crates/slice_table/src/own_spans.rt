@@ -6,11 +6,10 @@ ghost use Rattle.slice_table.specs.Inside.SpanLists.{shown_at};
 ghost use Rattle.slice_table.specs.Inside.Sweeps.{IsScope};
 ghost use Rattle.slice_table.specs.Slices.{AreSpansOf};
 
-use crate::entry_list::{EntryList, SpanEntry};
 use crate::full_span::sharers_there;
 use crate::scope::Scope;
 use crate::sight::nobody;
-use crate::span_list::{Shown, SpanList};
+use crate::span_list::{Shown, SpanEntry, SpanList};
 use std::alloc::{AllocError, Global};
 use tab_core::{MAX_VCPUS, VcpuNo, VcpuSet};
 use table_form::{Plan, Segment};
@@ -28,7 +27,7 @@ pub(crate) fn own_spans(alloc: Global, plan: &Plan, scope: &Scope) -> Result<Spa
     ensures { IfOk result (λ spans. AreSpansOf (plan_view plan.now) scope.now.core 0 spans ROUND) }
 {
     let segments = plan.tables.rows.items()[scope.core.index()].segments();
-    let mut entries = EntryList::with_room(alloc, segments.len())?;
+    let mut entries = Vec::with_capacity(alloc, segments.len())?;
     let mut shown = Vec::new(alloc);
     let mut numbers = [NONE; PLACES];
     for at in 0..segments.len() {

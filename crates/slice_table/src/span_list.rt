@@ -1,16 +1,22 @@
 ghost use Rattle.std.specs.Prelude.{◌≡◌, ◌<◌, ◌≤◌, ◌++◌, All, IsTrue, [], ◌∷◌, IfOk, OnOk, Some, length, map, slice_get, slice_index};
 ghost use Rattle.tab_core.specs.declared.TheConstants.{ROUND};
 ghost use Rattle.slice_table.specs.declared.full_span.FullSpan.{FullSpan};
-ghost use Rattle.slice_table.specs.declared.entry_list.SpanEntry.{SpanEntry as EntryValue};
+ghost use Rattle.slice_table.specs.declared.span_list.SpanEntry.{SpanEntry as EntryValue};
 ghost use Rattle.slice_table.specs.Inside.SpanLists.{shown_at, span_of};
 ghost use Rattle.slice_table.specs.Slices.{ends_of};
 
-use crate::entry_list::{EntryList, SpanEntry};
 use crate::full_span::FullSpan;
 use std::alloc::{AllocError, Global};
 use std::marker::Model;
 use tab_core::{VcpuNo, VcpuSet};
 use table_form::{Span, Spot};
+
+/// A span's end, and the number of what it shows.
+#[derive(Clone, Copy, Drop)]
+pub(crate) struct SpanEntry {
+    pub end: u32,
+    pub shown: u32,
+}
 
 /// What some spans show: the owner, the vCPUs away and the sharers.
 #[derive(Drop)]
@@ -23,22 +29,22 @@ pub(crate) struct Shown {
 /// Spans in order, of which those that show the same may share it. Contracts see each with what it shows.
 #[derive(Drop)]
 pub(crate) struct SpanList {
-    entries: EntryList,
+    entries: Vec<SpanEntry>,
     shown: Vec<Shown>,
 }
 
 impl Model for SpanList {
     ghost use Rattle.std.specs.Prelude.{◌<◌, ◌≤◌, List, All, length, map};
     ghost use Rattle.slice_table.specs.declared.full_span.FullSpan.{FullSpan};
-    ghost use Rattle.slice_table.specs.declared.entry_list.SpanEntry.{SpanEntry};
+    ghost use Rattle.slice_table.specs.declared.span_list.SpanEntry.{SpanEntry};
     ghost use Rattle.slice_table.specs.Inside.SpanLists.{span_of};
 
     ghost Value = { List FullSpan };
 
-    ghost view = { λ list. map (span_of list.shown.items) list.entries };
+    ghost view = { λ list. map (span_of list.shown.items) list.entries.items };
 
-    ghost invariant = { λ list. (length list.shown.items ≤ length list.entries)
-        × All (λ (entry : SpanEntry). entry.shown < length list.shown.items) list.entries };
+    ghost invariant = { λ list. (length list.shown.items ≤ length list.entries.items)
+        × All (λ (entry : SpanEntry). entry.shown < length list.shown.items) list.entries.items };
 }
 
 impl SpanList {
@@ -47,16 +53,16 @@ impl SpanList {
         ensures { IfOk result (λ list. list ≡ []) }
     {
         Ok(SpanList {
-            entries: EntryList::with_room(alloc, spans)?,
+            entries: Vec::with_capacity(alloc, spans)?,
             shown: Vec::new(alloc),
         })
     }
 
     /// The spans of these entries, each of which shows what is at its number.
-    pub fn of(entries: EntryList, shown: Vec<Shown>) -> SpanList
-        requires few { length shown.items ≤ length entries }
-        requires within { All (λ (entry : EntryValue). entry.shown < length shown.items) entries }
-        ensures { result ≡ map (span_of shown.items) entries }
+    pub fn of(entries: Vec<SpanEntry>, shown: Vec<Shown>) -> SpanList
+        requires few { length shown.items ≤ length entries.items }
+        requires within { All (λ (entry : EntryValue). entry.shown < length shown.items) entries.items }
+        ensures { result ≡ map (span_of shown.items) entries.items }
     {
         SpanList { entries, shown }
     }
@@ -95,7 +101,7 @@ impl SpanList {
     pub fn shrink(&mut self)
         ensures { self.new ≡ self.old }
     {
-        self.entries.shrink();
+        self.entries.shrink_to_fit();
         self.shown.shrink_to_fit();
     }
 
@@ -111,7 +117,7 @@ impl SpanList {
         requires { number < length self.now }
         ensures { result ≡ slice_index (ends_of self.now) number }
     {
-        self.entries.at(number).end
+        self.entries[number].end
     }
 
     /// The span of this number, which is below the count, without its sharers.
@@ -120,7 +126,7 @@ impl SpanList {
         ensures { (span : FullSpan) → slice_get self.now number ≡ Some span
             → (result.owner ≡ span.owner) × (result.away ≡ span.away) × (result.end ≡ span.end) }
     {
-        let entry = self.entries.at(number);
+        let entry = self.entries[number];
         let shown = &self.shown[entry.shown as usize];
         Spot {
             owner: shown.owner,
@@ -135,7 +141,7 @@ impl SpanList {
         ensures { (span : FullSpan) → slice_get self.now number ≡ Some span
             → (result.owner ≡ span.owner) × (result.sharers.now ≡ span.sharers) × (result.end ≡ span.end) }
     {
-        let entry = self.entries.at(number);
+        let entry = self.entries[number];
         let shown = &self.shown[entry.shown as usize];
         Span {
             owner: shown.owner,

@@ -2,7 +2,7 @@
 use Rattle.std.specs.Prelude.{ℕ, List, [], None, slice_index_or}
 use Rattle.slice_table.specs.declared.full_span.FullSpan.{FullSpan}
 use Rattle.slice_table.specs.declared.span_list.Shown.{Shown}
-use Rattle.slice_table.specs.declared.entry_list.SpanEntry.{SpanEntry}
+use Rattle.slice_table.specs.declared.span_list.SpanEntry.{SpanEntry}
 
 -- what is shown at the number
 abbrev pub shown_at : List Shown → ℕ → Shown

@@ -6,7 +6,7 @@ use Rattle.std.proofs.lemmas.Option.{slice_get_read}
 use Rattle.tab_core.specs.declared.TheConstants.{ROUND}
 use Rattle.table_form.specs.Tables.Rows.{Row, cells_from}
 use Rattle.table_form.specs.Tables.Views.{plan_view}
-use Rattle.slice_table.specs.declared.entry_list.SpanEntry.{SpanEntry}
+use Rattle.slice_table.specs.declared.span_list.SpanEntry.{SpanEntry}
 use Rattle.slice_table.specs.declared.full_span.FullSpan.{FullSpan}
 use Rattle.slice_table.specs.declared.own_spans.TheConstants.{NONE}
 use Rattle.slice_table.specs.declared.span_list.Shown.{Shown}
@@ -24,18 +24,18 @@ loop-at-init c =
     let none = ap length c.new-shown.ensures.items in
     record {
       own = subst (λ (entries : List SpanEntry). AreOwnSpans sharers c.segments-segments.result.now 0
-          (map (span_of shown) entries)) (sym c.in_ok-entries.ensures) (own_none sharers c.segments-segments.result.now);
+          (map (span_of shown) entries)) (sym c.in_ok-entries.ensures.items) (own_none sharers c.segments-segments.result.now);
       known = subst (λ (xs : List Shown). AreKnown sharers xs (replicate 257 NONE)) (sym c.new-shown.ensures.items)
           (known_none sharers);
       few = omega arith;
       within = subst (λ (entries : List SpanEntry). All (λ (entry : SpanEntry). entry.shown < length shown) entries)
-          (sym c.in_ok-entries.ensures) (All-nil (λ (entry : SpanEntry). entry.shown < length shown));
+          (sym c.in_ok-entries.ensures.items) (All-nil (λ (entry : SpanEntry). entry.shown < length shown));
     }
 
 pub number_of-requires-clause-few : goal.number_of-requires-clause-few
 number_of-requires-clause-few c =
     let was = c.loop-at.invariant in
-    let size = length-map c.loop-at.entries (span_of c.loop-at.shown.items) in
+    let size = length-map c.loop-at.entries.items (span_of c.loop-at.shown.items) in
     let few = segments_few 0 c.segments-segments.result.now ROUND c.segments-segments.ensures.rises in
     omega (arith, was.few, was.own.count, c.loop-at-test.true)
 
@@ -50,12 +50,12 @@ loop-at-preserved c =
     let at = c.loop-at.at in
     let s = c.index-segments-at.result in
     let found = c.in_ok-number.ensures in
-    let entries = c.loop-at.entries in
+    let entries = c.loop-at.entries.items in
     let old = c.loop-at.shown.items in
     let shown = c.number_of.new.shown.items in
     let entry : SpanEntry = record { end = s.end; shown = c.in_ok-number.number } in
     let span : FullSpan = span_of shown entry in
-    let pushed : c.push.new.self ≡ entries ++ entry ∷ [] = c.in_ok-push.ensures.ok in
+    let pushed : c.push.new.self.items ≡ entries ++ entry ∷ [] = c.in_ok-push.ensures.items in
     let size = length-append entries (entry ∷ []) in
     let count = ap length pushed in
     record {
@@ -77,7 +77,7 @@ of-requires-clause-few c =
 
 pub of-requires-clause-within : goal.of-requires-clause-within
 of-requires-clause-within c =
-    subst (λ (shown : List Shown). All (λ (entry : SpanEntry). entry.shown < length shown) c.loop-at.entries)
+    subst (λ (shown : List Shown). All (λ (entry : SpanEntry). entry.shown < length shown) c.loop-at.entries.items)
     (sym c.shrink_to_fit.ensures.items) c.loop-at.invariant.within
 
 pub returns : goal.returns
@@ -87,7 +87,7 @@ returns c =
     let ss = c.segments-segments.result.now in
     let of = c.segments-segments.ensures in
     let row = c.index-items-index.result in
-    let entries = c.loop-at.entries in
+    let entries = c.loop-at.entries.items in
     let shown = c.loop-at.shown.items in
     let spans = map (span_of shown) entries in
     let row_is : row ≡ get_or plan.rows scope.core row =
