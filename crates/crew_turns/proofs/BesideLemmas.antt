@@ -74,6 +74,12 @@ lead_held {C} core control laws cores lead lead' v w none held same agrees = rec
   control_agrees = agrees;
 }
 
+-- the players whose seats have met again are those whose seat was parted
+pub record HaveMet {C L : Type 0} (core : Kind C) (control : Kind L) (cores : List (Player C)) (lead : Player L) (v : View) (cores' : List (Player C)) (lead' : Player L) (w : View) : Type 0 where
+  pub held : AreHeld core control cores' lead' w
+  pub same : AreSame core control cores lead cores' lead'
+  pub actors : SameActors v w
+
 module _ {C L : Type 0} (core : Kind C) (control : Kind L) (core_laws : IsLawful core) (control_laws : IsLawful control)
     (cores : List (Player C)) (last : Player C) (lead : Player L) (v : View) (held : AreHeld core control (cores ++ last ∷ []) lead v) where
   abbrev n : ℕ
@@ -137,7 +143,7 @@ module _ {C L : Type 0} (core : Kind C) (control : Kind L) (core_laws : IsLawful
         (board_twice v left (both x y) (subst (IsSameBoard v) (sym left_is) (board_without (2 ^ n) v))
         (board_twice left x (both x y) (board_of left x actors) (board_both x y))))
 
-    pub whole_held : AreHeld core control (cores' ++ last' ∷ []) lead' w
+    whole_held : AreHeld core control (cores' ++ last' ∷ []) lead' w
     whole_held = subst (AreHeld core control (cores' ++ last' ∷ []) lead') (sym joined) (record {
       troop = record {
         few = omega (arith, few_cores, same.count, length_push cores' last');
@@ -167,7 +173,7 @@ module _ {C L : Type 0} (core : Kind C) (control : Kind L) (core_laws : IsLawful
           (subst (λ (k : ℕ). part (both x y) k ≡ part x k) (sym number) (both_mine x y controller has)));
     })
 
-    pub whole_same : AreSame core control (cores ++ last ∷ []) lead (cores' ++ last' ∷ []) lead'
+    whole_same : AreSame core control (cores ++ last ∷ []) lead (cores' ++ last' ∷ []) lead'
     whole_same = record {
       count = omega (arith, same.count, length_push cores last, length_push cores' last');
       each = λ i p q at at'. elim (push_split cores i last p at) [
@@ -183,5 +189,5 @@ module _ {C L : Type 0} (core : Kind C) (control : Kind L) (core_laws : IsLawful
       same_lead = same.same_lead;
     }
 
-    pub whole_actors : SameActors v w
-    whole_actors = actors_met (2 ^ n) v left own x y w left_is own_is actors one_actors joined
+    pub have_met : HaveMet core control (cores ++ last ∷ []) lead v (cores' ++ last' ∷ []) lead' w
+    have_met = record { held = whole_held; same = whole_same; actors = actors_met (2 ^ n) v left own x y w left_is own_is actors one_actors joined }

@@ -18,6 +18,16 @@ use Rattle.crew_turns.specs.Inside.Clocks.{AreTicks, IsClockOf, ticks_left}
 use Rattle.crew_turns.specs.Inside.Turns.{AreCores, CoresAgree, CoresGoOn, RunsOn}
 use Rattle.crew_turns.proofs.GoingLemmas.{actors_step, board_step}
 
+-- what holds after core c ran on as far as this clock
+pub record RanOn {C : Type 0} (core : Kind C) (cores : List (Player C)) (c : ℕ) (ticks : List ℕ) (v : View) (cores' : List (Player C)) (answer : ℕ) (w : View) : Type 0 where
+  pub are : AreCores core cores'
+  pub goes : CoresGoOn core cores v cores' w
+  pub ticks_then : AreTicks core cores' w (slice_set ticks c answer)
+  pub further : answer ≢ slice_index ticks c → ticks_left (slice_set ticks c answer) < ticks_left ticks
+  -- where it didn't move
+  pub stays : answer ≡ slice_index ticks c → AreTicks core cores' w ticks
+  pub waits : answer ≡ slice_index ticks c → (p : Player C) → slice_get cores' c ≡ Some p → core.waits p.actor v w
+
 module _ {C : Type 0} (core : Kind C) (laws : IsLawful core) (short : (a : C) (v : View) → core.agrees a v → core.end a < OUT)
     (cores : List (Player C)) (c : ℕ) (now default : Player C) (v : View) (ticks : List ℕ) (are : AreCores core cores) (agree : CoresAgree core cores v)
     (right : AreTicks core cores v ticks) (lt : c < length cores) (on : slice_index ticks c ≢ OUT) (read : now ≡ get_or cores c default) where
@@ -61,7 +71,7 @@ module _ {C : Type 0} (core : Kind C) (laws : IsLawful core) (short : (a : C) (v
     number_then : core.number n.actor ≡ c
     number_then = laws.numbered now.actor n.actor is_same ∙ number_now
 
-    pub cores_then : AreCores core cores'
+    cores_then : AreCores core cores'
     cores_then = record {
       few = subst (λ (k : ℕ). k ≤ 32) (sym (length-set cores c n)) are.few;
       each = λ i p x. dite (ℕ_discrete i c)
@@ -69,7 +79,7 @@ module _ {C : Type 0} (core : Kind C) (laws : IsLawful core) (short : (a : C) (v
           (λ ne. are.each i p (sym (other i ne) ∙ x));
     }
 
-    pub goes : CoresGoOn core cores v cores' w
+    goes : CoresGoOn core cores v cores' w
     goes = record {
       count = length-set cores c n;
       same = λ i p q x y. dite (ℕ_discrete i c)
@@ -106,7 +116,7 @@ module _ {C : Type 0} (core : Kind C) (laws : IsLawful core) (short : (a : C) (v
       | inr x ↦ inr (x.0, x.1, other i ne ∙ x.2, changes_core.actors i ∙ x.3, x.4)
     ]
 
-    pub right_then : AreTicks core cores' w (slice_set ticks c answer)
+    right_then : AreTicks core cores' w (slice_set ticks c answer)
     right_then = record {
       size = length-set ticks c answer ∙ right.size;
       each = λ i inner. dite (ℕ_discrete i c)
@@ -115,7 +125,7 @@ module _ {C : Type 0} (core : Kind C) (laws : IsLawful core) (short : (a : C) (v
           (other_then i ne (right.each i (subst (λ (k : ℕ). i < k) (length-set cores c n) inner))));
     }
 
-    pub further : answer ≢ slice_index ticks c → ticks_left (slice_set ticks c answer) < ticks_left ticks
+    further : answer ≢ slice_index ticks c → ticks_left (slice_set ticks c answer) < ticks_left ticks
     further moved = by_less (elim runs [
       | inl out ↦ omega (arith, out.0, there.0)
       | inr ran ↦ elim ran.1 [ inl more ↦ omega (arith, more, clock_now) | inr stays ↦ absurd (moved (stays.0 ∙ sym clock_now)) ]
@@ -125,10 +135,10 @@ module _ {C : Type 0} (core : Kind C) (laws : IsLawful core) (short : (a : C) (v
         by_less more = let s = sum_by-set (λ (k : ℕ). OUT - k) ticks c answer 0 inside in omega (arith, s, more, there.0)
 
     -- where it didn't move
-    pub right_stays : answer ≡ slice_index ticks c → AreTicks core cores' w ticks
+    right_stays : answer ≡ slice_index ticks c → AreTicks core cores' w ticks
     right_stays e = subst (AreTicks core cores' w) (ap (slice_set ticks c) e ∙ set-get_or ticks c _) right_then
 
-    pub waits : answer ≡ slice_index ticks c → (p : Player C) → slice_get cores' c ≡ Some p → core.waits p.actor v w
+    waits : answer ≡ slice_index ticks c → (p : Player C) → slice_get cores' c ≡ Some p → core.waits p.actor v w
     waits e p x = subst (λ (q : Player C). core.waits q.actor v w) (same (slice_get cores' c) n p here x) (elim runs [
       | inl out ↦ absurd (omega (arith, out.0, e, there.0))
       | inr ran ↦ elim ran.1 [
@@ -136,6 +146,9 @@ module _ {C : Type 0} (core : Kind C) (laws : IsLawful core) (short : (a : C) (v
         | inr stays ↦ stays.1
       ]
     ])
+
+    pub ran_on : RanOn core cores c ticks v cores' answer w
+    ran_on = record { are = cores_then; goes = goes; ticks_then = right_then; further = further; stays = right_stays; waits = waits }
 
 -- the clocks of one core more
 pub read_more : {C : Type 0} (core : Kind C) (cores : List (Player C)) (v : View) (ticks : List ℕ) (c clock : ℕ) → c < length ticks

@@ -74,6 +74,12 @@ rest_since core control core_laws control_laws cores lead u v w on rest = record
   lead_rests = λ has. elim (rest.lead_rests has) [ inl ended ↦ inl ended | inr waits ↦ inr (control_laws.since lead.actor u v w on waits) ];
 }
 
+-- the troop agrees after the controller's step
+pub record LedOn {C L : Type 0} (core : Kind C) (control : Kind L) (cores : List (Player C)) (lead : Player L) (ticks : List ℕ) (v w : View) : Type 0 where
+  pub agreed : AreAgreed core control cores lead w
+  pub clocks : AreTicks core cores w ticks
+  pub parts : PartsGoOn v w
+
 -- the cores' part of a turn led from v to u
 module _ {C L : Type 0} (core : Kind C) (control : Kind L) (core_laws : IsLawful core) (control_laws : IsLawful control)
     (cores cores' : List (Player C)) (lead : Player L) (ticks ticks' : List ℕ) (posting : Bool) (v u : View)
@@ -122,28 +128,34 @@ module _ {C L : Type 0} (core : Kind C) (control : Kind L) (core_laws : IsLawful
   actors_here : SameActors u u
   actors_here = record { started = refl; lag = refl; cores = refl; events = refl; actors = λ a. refl }
 
-  -- a turn in which the controller had nothing to do
-  pub told_over : posting ≡ false → (p : Progress) → CoresTold core ticks v p cores' ticks' u
-      → TurnTold core control (left_to_do control ticks lead posting) v p cores' lead (left_to_do control ticks' lead posting) u
-  told_over off Moved told = omega (arith, told)
-  told_over off Waits told = (
-    omega (arith, told.0),
-    record {
-      cores_rest = inr (least_waits u actors_here told.1 (λ p waits at. waits));
-      lead_rests = λ has. inl (is_posting.done off (sym (on.actors.actors controller) ∙ has));
-    },
-  )
-  told_over off Stopped told = (
-    omega (arith, told.0),
-    record {
-      cores_rest = inr (least_waits u actors_here told.1 (λ p waits at. waits));
-      lead_rests = λ has. inl (is_posting.done off (sym (on.actors.actors controller) ∙ has));
-    },
-  )
-  told_over off Done told = record {
-    cores_have = ended_then u actors_here told.1;
-    lead_has = λ has. is_posting.done off (sym (on.actors.actors controller) ∙ has);
+  off_rest : posting ≡ false → LeastStuck core cores' ticks' v u → AreAtRest core control cores' lead v u
+  off_rest off stuck = record {
+    cores_rest = inr (least_waits u actors_here stuck (λ p waits at. waits));
+    lead_rests = λ has. inl (is_posting.done off (sym (on.actors.actors controller) ∙ has));
   }
+
+  -- what holds after a turn, by another name of its answer and of whether the controller is to go on
+  as_told : (last : Player L) (w : View) (p q : Progress) (still : Bool) → p ≡ q → still ≡ posting
+      → TurnTold core control (left_to_do control ticks lead posting) v q cores' last (left_to_do control ticks' last posting) w
+      → TurnTold core control (left_to_do control ticks lead posting) v p cores' last (left_to_do control ticks' last still) w
+  as_told last w p q still is same told =
+      subst (λ (b : Bool). TurnTold core control (left_to_do control ticks lead posting) v p cores' last (left_to_do control ticks' last b) w) (sym same)
+      (subst (λ (r : Progress). TurnTold core control (left_to_do control ticks lead posting) v r cores' last (left_to_do control ticks' last posting) w) (sym is) told)
+
+  -- a turn in which the controller had nothing to do
+  pub told_over : posting ≡ false → (still : Bool) → still ≡ posting → (p : Progress) → CoresTold core ticks v p cores' ticks' u
+      → TurnTold core control (left_to_do control ticks lead posting) v p cores' lead (left_to_do control ticks' lead still) u
+  told_over off still same p told = as_told lead u p p still refl same (over p told)
+    where
+      over : (p : Progress) → CoresTold core ticks v p cores' ticks' u
+          → TurnTold core control (left_to_do control ticks lead posting) v p cores' lead (left_to_do control ticks' lead posting) u
+      over Moved told = omega (arith, told)
+      over Waits told = (omega (arith, told.0), off_rest off told.1)
+      over Stopped told = (omega (arith, told.0), off_rest off told.1)
+      over Done told = record {
+        cores_have = ended_then u actors_here told.1;
+        lead_has = λ has. is_posting.done off (sym (on.actors.actors controller) ∙ has);
+      }
 
   -- the controller's step led on from u to w
   module _ (lead' : Player L) (w : View) (changes : ChangesOnly u w (control.number lead.actor)) (parts : PartsGoOn u w)
@@ -154,25 +166,23 @@ module _ {C L : Type 0} (core : Kind C) (control : Kind L) (core_laws : IsLawful
     away : (i : ℕ) (p : Player C) → slice_get cores' i ≡ Some p → core.number p.actor ≢ controller
     away i p at e = omega (arith, e, are'.each i p at, slice_get_within cores' i p at, are'.few)
 
-    pub end_agreed : AreAgreed core control cores' lead' w
-    end_agreed = record {
-      troop = record { few = are'.few; each = are'.each; lead_is = control_laws.numbered lead.actor lead'.actor is_same ∙ agreed.troop.lead_is };
-      each = λ i p at has. core_laws.parted p.actor u w (on.agree i p at (sym (changes_lead.actors i) ∙ has)) (board_step u w controller changes_lead)
-          (subst (λ (k : ℕ). holds w k ≡ true) (sym (are'.each i p at)) has) (changes_lead.parts (core.number p.actor) (away i p at));
-      control_agrees = λ _. agrees;
+    pub led_on : LedOn core control cores' lead' ticks' v w
+    led_on = record {
+      agreed = record {
+        troop = record { few = are'.few; each = are'.each; lead_is = control_laws.numbered lead.actor lead'.actor is_same ∙ agreed.troop.lead_is };
+        each = λ i p at has. core_laws.parted p.actor u w (on.agree i p at (sym (changes_lead.actors i) ∙ has)) (board_step u w controller changes_lead)
+            (subst (λ (k : ℕ). holds w k ≡ true) (sym (are'.each i p at)) has) (changes_lead.parts (core.number p.actor) (away i p at));
+        control_agrees = λ _. agrees;
+      };
+      clocks = record {
+        size = right'.size;
+        each = λ i lt. elim (right'.each i lt) [
+          | inl out ↦ inl (out.0, λ p at has. out.1 p at (sym (changes_lead.actors i) ∙ has))
+          | inr x ↦ inr (x.0, x.1, x.2, changes_lead.actors i ∙ x.3, x.4)
+        ];
+      };
+      parts = parts_more v u w on.parts parts;
     }
-
-    pub end_ticks : AreTicks core cores' w ticks'
-    end_ticks = record {
-      size = right'.size;
-      each = λ i lt. elim (right'.each i lt) [
-        | inl out ↦ inl (out.0, λ p at has. out.1 p at (sym (changes_lead.actors i) ∙ has))
-        | inr x ↦ inr (x.0, x.1, x.2, changes_lead.actors i ∙ x.3, x.4)
-      ];
-    }
-
-    pub end_parts : PartsGoOn v w
-    end_parts = parts_more v u w on.parts parts
 
     -- where it doesn't get on
     module _ (stays : control.place lead'.actor ≡ control.place lead.actor) (quiet : IsQuiet u w) (waits : control.waits lead'.actor u w) where
@@ -191,16 +201,24 @@ module _ {C L : Type 0} (core : Kind C) (control : Kind L) (core_laws : IsLawful
       ended_rest : ((i : ℕ) → i < length cores' → slice_index ticks' i ≡ OUT) → AreAtRest core control cores' lead' v w
       ended_rest out = record { cores_rest = inl (ended_then w quiet.actors out); lead_rests = lead_rests' }
 
-      pub told_waits : (p : Progress) → CoresTold core ticks v p cores' ticks' u
-          → TurnTold core control (left_to_do control ticks lead posting) v (or_waits p) cores' lead' (left_to_do control ticks' lead' posting) w
-      told_waits Moved told = omega (arith, told, same_left)
-      told_waits Waits told = (omega (arith, told.0, same_left), stuck_rest told.1)
-      told_waits Stopped told = (omega (arith, told.0, same_left), stuck_rest told.1)
-      told_waits Done told = (omega (arith, told.0, same_left), ended_rest told.1)
+      pub told_waits : (still : Bool) → still ≡ posting → (p answer : Progress) → answer ≡ or_waits p → CoresTold core ticks v p cores' ticks' u
+          → TurnTold core control (left_to_do control ticks lead posting) v answer cores' lead' (left_to_do control ticks' lead' still) w
+      told_waits still same p answer is told = as_told lead' w answer (or_waits p) still is same (by p told)
+        where
+          by : (p : Progress) → CoresTold core ticks v p cores' ticks' u
+              → TurnTold core control (left_to_do control ticks lead posting) v (or_waits p) cores' lead' (left_to_do control ticks' lead' posting) w
+          by Moved told = omega (arith, told, same_left)
+          by Waits told = (omega (arith, told.0, same_left), stuck_rest told.1)
+          by Stopped told = (omega (arith, told.0, same_left), stuck_rest told.1)
+          by Done told = (omega (arith, told.0, same_left), ended_rest told.1)
 
-      pub told_stops : (p : Progress) → CoresTold core ticks v p cores' ticks' u
-          → TurnTold core control (left_to_do control ticks lead posting) v (or_stops p) cores' lead' (left_to_do control ticks' lead' posting) w
-      told_stops Moved told = omega (arith, told, same_left)
-      told_stops Waits told = (omega (arith, told.0, same_left), stuck_rest told.1)
-      told_stops Stopped told = (omega (arith, told.0, same_left), stuck_rest told.1)
-      told_stops Done told = (omega (arith, told.0, same_left), ended_rest told.1)
+      pub told_stops : (still : Bool) → still ≡ posting → (p answer : Progress) → answer ≡ or_stops p → CoresTold core ticks v p cores' ticks' u
+          → TurnTold core control (left_to_do control ticks lead posting) v answer cores' lead' (left_to_do control ticks' lead' still) w
+      told_stops still same p answer is told = as_told lead' w answer (or_stops p) still is same (by p told)
+        where
+          by : (p : Progress) → CoresTold core ticks v p cores' ticks' u
+              → TurnTold core control (left_to_do control ticks lead posting) v (or_stops p) cores' lead' (left_to_do control ticks' lead' posting) w
+          by Moved told = omega (arith, told, same_left)
+          by Waits told = (omega (arith, told.0, same_left), stuck_rest told.1)
+          by Stopped told = (omega (arith, told.0, same_left), stuck_rest told.1)
+          by Done told = (omega (arith, told.0, same_left), ended_rest told.1)

@@ -9,7 +9,7 @@ use crate::patience::Patience;
 use crate::player::Player;
 use crate::stepper::{Site, Stepper};
 use crate::working::work;
-use round_words::{RoundBoard, RoundSeat};
+use round_words::RoundSeat;
 use std::thread::{Threads, join};
 
 /// The last of the cores gets a worker, in a thread of its own where there is one, and so do the others; the controller is
@@ -19,27 +19,25 @@ use std::thread::{Threads, join};
 /// the threads that it has started.
 pub fn work_beside<R: Threads + Sync, C: Stepper + Drop + Send, L: Stepper + Drop + Send, G: Gate>(
     rt: &R,
-    board: &RoundBoard,
+    site: &Site<'_, G>,
     mut seat: RoundSeat,
     mut cores: Vec<Player<C>>,
     lead: Player<L>,
-    lag: u32,
-    gate: &G,
     patience: Patience,
 ) -> (RoundSeat, Vec<Player<C>>, Player<L>)
-    requires board { IsSeatOf board.now seat }
+    requires board { IsSeatOf site.now.board.now seat }
     requires held { AreHeld C.kind L.kind cores.items lead (view_of seat) }
-    ensures board { IsSeatOf board.now result.0 }
+    ensures board { IsSeatOf site.now.board.now result.0 }
     ensures held { AreHeld C.kind L.kind result.1.items result.2 (view_of result.0) }
     ensures same { AreSame C.kind L.kind cores.items lead result.1.items result.2 }
     ensures actors { SameActors (view_of seat) (view_of result.0) }
     ensures room { vec_capacity result.1 ≡ vec_capacity cores }
 {
     let Some(player) = cores.pop() else {
-        let site = Site { board, lag, gate };
-        let (seat, lead) = work(&site, seat, lead, patience);
+        let (seat, lead) = work(site, seat, lead, patience);
         return (seat, cores, lead);
     };
+    let (board, lag, gate) = (site.board, site.lag, site.gate);
     let own = board.part(&mut seat, 1 << cores.len());
     let ((own, player), (mut seat, mut cores, lead)) = join(
         rt,
@@ -55,7 +53,7 @@ pub fn work_beside<R: Threads + Sync, C: Stepper + Drop + Send, L: Stepper + Dro
                 × AreHeld C.kind L.kind result.1.items result.2 (view_of result.0)
                 × AreSame C.kind L.kind cores.items lead result.1.items result.2
                 × SameActors (view_of seat) (view_of result.0) × (vec_capacity result.1 ≡ vec_capacity cores) }
-        { work_beside(rt, board, seat, cores, lead, lag, gate, patience) },
+        { work_beside(rt, &Site { board, lag, gate }, seat, cores, lead, patience) },
     );
     board.meet(&mut seat, own);
     cores.push_reserved(player);

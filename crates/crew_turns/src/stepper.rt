@@ -49,8 +49,8 @@ pub trait Stepper {
         ensures parts { PartsGoOn (view_of seat.old) (view_of seat.new) }
         ensures told { Stepped kind self.old (view_of seat.old) result self.new (view_of seat.new) };
 
-    /// Further steps, after one in which it got on. Each is made while it is at this place at most, and after a pass as `step`
-    /// is. None is owed, and none is made unless an actor says otherwise.
+    /// Further steps, after one in which it got on. Each is to begin at this place at most, and after a pass as `step` does; no
+    /// clause asks for either. None is owed, and none is made unless an actor says otherwise.
     #[inline(always)]
     fn run_on<P: Pass>(
         &mut self,

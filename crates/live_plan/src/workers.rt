@@ -112,7 +112,16 @@ pub fn run_live<'a, R: Threads + Wait + Sync, G: Gate>(
                 × AreHeld live_core_kind live_lead_kind result.1.items result.2 (view_of result.0)
                 × AreSame live_core_kind live_lead_kind members.entry.items lead.entry result.1.items result.2
                 × SameActors (view_of seat) (view_of result.0) }
-        { work_beside(rt, board, seat, members, lead, lag, gate, patience) },
+        {
+            work_beside(
+                rt,
+                &Site { board, lag, gate },
+                seat,
+                members,
+                lead,
+                patience,
+            )
+        },
         move || -> Maker
             requires { IsSync G.row × IsMakerOf book.now maker }
             ensures { IsMakerOf book.entry.now result × HasPlanned book.entry.now result.planner }

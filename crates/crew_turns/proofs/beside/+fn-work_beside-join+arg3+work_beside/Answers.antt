@@ -5,8 +5,8 @@ use Rattle.round_words.specs.declared.view.View.{View}
 use Rattle.round_words.specs.Seats.{view_of}
 use Rattle.round_words.specs.Views.{holds, names, only, without}
 use Rattle.crew_turns.specs.declared.player.Player.{Player}
-use Rattle.crew_turns.specs.Troops.{AreHeld, AreSame}
-use Rattle.crew_turns.proofs.BesideLemmas.{few_cores, last_held, lead_held, mask_held, mask_is, one_agrees, rest_held, whole_actors, whole_held, whole_same}
+use Rattle.crew_turns.specs.Troops.{AreHeld}
+use Rattle.crew_turns.proofs.BesideLemmas.{HaveMet, few_cores, have_met, last_held, lead_held, mask_held, mask_is, one_agrees, rest_held}
 use Rattle.crew_turns.proofs.beside.+fn-work_beside-join+arg3+work_beside.Goals as goal
 
 pub part-own-requires-clause-started : goal.part-own-requires-clause-started
@@ -45,8 +45,8 @@ join-own-requires-after_bounds g t c κs within =
       ),
     )
 
-pub returns-clause-held : goal.returns-clause-held
-returns-clause-held g t c =
+pub returns : goal.returns
+returns g t c =
     let gs : List (Player g.row.C.Denot) = c.pop.new.self.items in
     let v : View = view_of c.args.seat in
     let held : AreHeld g.C.Stepper.kind g.L.Stepper.kind (gs ++ c.in-Some.player ∷ []) c.args.lead v = subst (λ (ps : List (Player g.row.C.Denot)). AreHeld g.C.Stepper.kind g.L.Stepper.kind ps c.args.lead v) c.in-Some.ensures.items c.requires.held in
@@ -55,37 +55,10 @@ returns-clause-held g t c =
     let kept : view_of c.part-own.new.seat ≡ without (2 ^ length gs) v = c.part-own.ensures.kept ∙ ap (λ (m : ℕ). without m v) mask in
     let one = c.join-own.ensures.first in
     let rest = c.join-own.ensures.second in
-    subst (λ (ps : List (Player g.row.C.Denot)). AreHeld g.C.Stepper.kind g.L.Stepper.kind ps c.join-own.result.1.2 (view_of c.meet.new.seat)) (sym c.push_reserved.ensures.items)
-    (whole_held g.C.Stepper.kind g.L.Stepper.kind g.C.Stepper.lawful g.L.Stepper.lawful gs c.in-Some.player c.args.lead v held c.join-own.result.1.1.items c.join-own.result.0.1 c.join-own.result.1.2
+    let both = c.push_reserved.new.self.items in
+    let met = subst (λ (ps : List (Player g.row.C.Denot)). HaveMet g.C.Stepper.kind g.L.Stepper.kind ps c.args.lead v both c.join-own.result.1.2 (view_of c.meet.new.seat)) (sym c.in-Some.ensures.items)
+    (subst (λ (ps : List (Player g.row.C.Denot)). HaveMet g.C.Stepper.kind g.L.Stepper.kind (gs ++ c.in-Some.player ∷ []) c.args.lead v ps c.join-own.result.1.2 (view_of c.meet.new.seat)) (sym c.push_reserved.ensures.items)
+    (have_met g.C.Stepper.kind g.L.Stepper.kind g.C.Stepper.lawful g.L.Stepper.lawful gs c.in-Some.player c.args.lead v held c.join-own.result.1.1.items c.join-own.result.0.1 c.join-own.result.1.2
     (view_of c.part-own.new.seat) (view_of c.part-own.result) (view_of c.join-own.result.1.0) (view_of c.join-own.result.0.0) (view_of c.meet.new.seat)
-    kept given rest.1 rest.2 one.1 one.2 rest.3 one.3 c.meet.ensures.view)
-
-pub returns-clause-same : goal.returns-clause-same
-returns-clause-same g t c =
-    let gs : List (Player g.row.C.Denot) = c.pop.new.self.items in
-    let v : View = view_of c.args.seat in
-    let held : AreHeld g.C.Stepper.kind g.L.Stepper.kind (gs ++ c.in-Some.player ∷ []) c.args.lead v = subst (λ (ps : List (Player g.row.C.Denot)). AreHeld g.C.Stepper.kind g.L.Stepper.kind ps c.args.lead v) c.in-Some.ensures.items c.requires.held in
-    let mask = mask_is c.len.result (length gs) (omega (arith, c.len.ensures)) (few_cores g.C.Stepper.kind g.L.Stepper.kind g.C.Stepper.lawful g.L.Stepper.lawful gs c.in-Some.player c.args.lead v held) in
-    let given : view_of c.part-own.result ≡ only (2 ^ length gs) v = c.part-own.ensures.given ∙ ap (λ (m : ℕ). only m v) mask in
-    let kept : view_of c.part-own.new.seat ≡ without (2 ^ length gs) v = c.part-own.ensures.kept ∙ ap (λ (m : ℕ). without m v) mask in
-    let one = c.join-own.ensures.first in
-    let rest = c.join-own.ensures.second in
-    subst (λ (ps : List (Player g.row.C.Denot)). AreSame g.C.Stepper.kind g.L.Stepper.kind ps c.args.lead c.push_reserved.new.self.items c.join-own.result.1.2) (sym c.in-Some.ensures.items)
-    (subst (λ (ps : List (Player g.row.C.Denot)). AreSame g.C.Stepper.kind g.L.Stepper.kind (gs ++ c.in-Some.player ∷ []) c.args.lead ps c.join-own.result.1.2) (sym c.push_reserved.ensures.items)
-    (whole_same g.C.Stepper.kind g.L.Stepper.kind g.C.Stepper.lawful g.L.Stepper.lawful gs c.in-Some.player c.args.lead v held c.join-own.result.1.1.items c.join-own.result.0.1 c.join-own.result.1.2
-    (view_of c.part-own.new.seat) (view_of c.part-own.result) (view_of c.join-own.result.1.0) (view_of c.join-own.result.0.0) (view_of c.meet.new.seat)
-    kept given rest.1 rest.2 one.1 one.2 rest.3 one.3 c.meet.ensures.view))
-
-pub returns-clause-actors : goal.returns-clause-actors
-returns-clause-actors g t c =
-    let gs : List (Player g.row.C.Denot) = c.pop.new.self.items in
-    let v : View = view_of c.args.seat in
-    let held : AreHeld g.C.Stepper.kind g.L.Stepper.kind (gs ++ c.in-Some.player ∷ []) c.args.lead v = subst (λ (ps : List (Player g.row.C.Denot)). AreHeld g.C.Stepper.kind g.L.Stepper.kind ps c.args.lead v) c.in-Some.ensures.items c.requires.held in
-    let mask = mask_is c.len.result (length gs) (omega (arith, c.len.ensures)) (few_cores g.C.Stepper.kind g.L.Stepper.kind g.C.Stepper.lawful g.L.Stepper.lawful gs c.in-Some.player c.args.lead v held) in
-    let given : view_of c.part-own.result ≡ only (2 ^ length gs) v = c.part-own.ensures.given ∙ ap (λ (m : ℕ). only m v) mask in
-    let kept : view_of c.part-own.new.seat ≡ without (2 ^ length gs) v = c.part-own.ensures.kept ∙ ap (λ (m : ℕ). without m v) mask in
-    let one = c.join-own.ensures.first in
-    let rest = c.join-own.ensures.second in
-    whole_actors g.C.Stepper.kind g.L.Stepper.kind g.C.Stepper.lawful g.L.Stepper.lawful gs c.in-Some.player c.args.lead v held c.join-own.result.1.1.items c.join-own.result.0.1 c.join-own.result.1.2
-    (view_of c.part-own.new.seat) (view_of c.part-own.result) (view_of c.join-own.result.1.0) (view_of c.join-own.result.0.0) (view_of c.meet.new.seat)
-    kept given rest.1 rest.2 one.1 one.2 rest.3 one.3 c.meet.ensures.view
+    kept given rest.1 rest.2 one.1 one.2 rest.3 one.3 c.meet.ensures.view)) in
+    record { board = search rules; held = met.held; same = met.same; actors = met.actors; room = search rules }
