@@ -1,4 +1,4 @@
-ghost use Rattle.std.specs.Prelude.{◌≡◌, ◌-◌, ◌<◌, ◌≤◌, ℕ, IfOk, IfSome, Some, length, slice_get, slice_index};
+ghost use Rattle.std.specs.Prelude.{◌≡◌, ◌-◌, ◌<◌, ◌≤◌, ℕ, IfNone, IfOk, IfSome, Some, length, slice_get, slice_index};
 ghost use Rattle.tab_core.specs.declared.TheConstants.{MAX_CORES, MAX_ROUNDS, MAX_VCPUS};
 ghost use Rattle.table_form.specs.Running.Courses.{CourseView, outline_of};
 ghost use Rattle.round_words.specs.declared.view.View.{View as ViewValue};
@@ -86,18 +86,19 @@ impl CoreState {
         &self.log.used
     }
 
-    /// The used count of the round that the core entered last, if it has entered one. A core's round uses no more events than
-    /// the outline has; for another outline there may be none.
+    /// The used count of the round that the core entered last. There is none where it has entered no round, or where the count
+    /// is above the outline's events, which no run by that outline leads to.
     pub fn last_used(&self, outline: &Outline) -> Option<u32>
         ensures last { IfSome result (λ used. slice_get self.now.used (length self.now.used - 1) ≡ Some used) }
         ensures within { IfSome result (λ used. used ≤ length outline.now.ticks) }
+        ensures none { IfNone result ((used : ℕ) → slice_get self.now.used (length self.now.used - 1) ≡ Some used
+            → length outline.now.ticks < used) }
     {
         let rounds = self.log.used.len();
         if rounds == 0 {
             return None;
         }
         let used = self.log.used[rounds - 1];
-        // no round uses more, but what a state shows by itself doesn't say so
         if used > outline.count() {
             return None;
         }
