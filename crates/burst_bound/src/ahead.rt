@@ -46,27 +46,34 @@ impl Ahead {
     }
 }
 
-// The bound of a burst that is seen from this tick on, as `bound_since` has it, out of `since` and `ready`.
+// An event that brings so many ticks of work for the vCPU.
+#[derive(Clone, Copy)]
+pub(crate) struct Burst {
+    pub(crate) event: u32,
+    pub(crate) vcpu: VcpuNo,
+    pub(crate) work: u32,
+}
+
+// The bound of the burst, which is seen from this tick on, as `bound_since` has it, out of `since` and `ready`.
 pub(crate) fn bound_ahead(
     course: &Course,
     rounds: u32,
     used: &[u32],
     since: &[u32],
     ready: &[u32],
-    event: u32,
-    vcpu: VcpuNo,
-    work: u32,
+    burst: Burst,
     seen: u32,
 ) -> Option<u64>
-    requires event { event < length course.now.ticks }
+    requires event { burst.event < length course.now.ticks }
     requires in_run { seen < rounds * ROUND }
     requires few { rounds ≤ MAX_ROUNDS }
     requires each_round { length used.now ≡ rounds }
     requires counts { (r count : ℕ) → slice_get used.now r ≡ Some count → count ≤ length course.now.ticks }
     requires since { AreSince course.now used.now since.now }
     requires ready { AreReady course.now ready.now }
-    ensures { IsOneIfAny (IsBurstBound course.now rounds used.now event vcpu work seen) result }
+    ensures { IsOneIfAny (IsBurstBound course.now rounds used.now burst.event burst.vcpu burst.work seen) result }
 {
+    let Burst { event, vcpu, work } = burst;
     let found = end_since(course, rounds, used, vcpu, work, seen)?;
     let end = found.end.div_ceil(ROUND);
     if u64::from(ready[vcpu.index()]) > u64::from(event) + 1 {

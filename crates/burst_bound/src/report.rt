@@ -9,7 +9,7 @@ ghost use Rattle.burst_bound.specs.KeptRuns.{IsKeptRun};
 ghost use Rattle.burst_bound.specs.Reports.{AreBurstAnswers, HasRoomFor};
 ghost use Rattle.burst_bound.specs.ScriptBursts.{bursts_of};
 
-use crate::ahead::{Ahead, bound_ahead};
+use crate::ahead::{Ahead, Burst, bound_ahead};
 use crate::answer::BurstAnswer;
 use crate::ran::done_in;
 use crate::runs::Runs;
@@ -94,16 +94,12 @@ impl BurstReport {
         self.runs.fill(course, rounds, crew);
         self.ahead.fill(course, used);
         fill_sights(course, rounds, crew, &mut self.sights);
-        answer_all(
-            course,
-            rounds,
-            script,
-            crew,
-            &self.runs,
-            &self.ahead,
-            &self.sights,
-            &mut self.answers,
-        );
+        let known = Known {
+            runs: &self.runs,
+            ahead: &self.ahead,
+            sights: &self.sights,
+        };
+        answer_all(course, rounds, script, crew, &known, &mut self.answers);
     }
 
     /// What is reported of each burst, in the order of the script.
@@ -129,30 +125,37 @@ pub fn burst_count(script: &Script) -> u32
     count
 }
 
+// What the bursts of a run are answered by: what each vCPU ran, what the used counts say, and for each event a tick from which
+// on all cores have seen it.
+#[derive(Clone, Copy)]
+struct Known<'a> {
+    runs: &'a Runs,
+    ahead: &'a Ahead,
+    sights: &'a [u32],
+}
+
 // What is reported of each burst of the script.
 fn answer_all(
     course: &Course,
     rounds: u32,
     script: &Script,
     crew: &Crew<'_>,
-    runs: &Runs,
-    ahead: &Ahead,
-    sights: &[u32],
+    known: &Known<'_>,
     answers: &mut Vec<BurstAnswer>,
 )
     requires few { rounds ≤ MAX_ROUNDS }
     requires events { length script.now ≡ length course.now.ticks }
     requires kept { (s : StateValue) × IsKeptRun course.now rounds crew.now s
-        × AreRuns rounds s runs.now.pieces.items runs.now.before.items
-        × AreSince course.now s.decided ahead.now.since.items }
-    requires ready { AreReady course.now ahead.now.ready.items }
-    requires size { length course.now.ticks ≤ length sights.now }
+        × AreRuns rounds s known.now.runs.now.pieces.items known.now.runs.now.before.items
+        × AreSince course.now s.decided known.now.ahead.now.since.items }
+    requires ready { AreReady course.now known.now.ahead.now.ready.items }
+    requires size { length course.now.ticks ≤ length known.now.sights.now }
     requires sights { (s : StateValue) (event : ℕ) → IsKeptRun course.now rounds crew.now s
         → event < length course.now.ticks
-        → IsSeenBelow s course.now.cores event (slice_index sights.now event) }
+        → IsSeenBelow s course.now.cores event (slice_index known.now.sights.now event) }
     requires room { length (bursts_of script.now) ≤ vec_capacity answers.old }
     ensures answers { (s : StateValue) → IsKeptRun course.now rounds crew.now s
-        → AreRuns rounds s runs.now.pieces.items runs.now.before.items
+        → AreRuns rounds s known.now.runs.now.pieces.items known.now.runs.now.before.items
         → AreBurstAnswers course.now rounds s script.now answers.new.items }
     ensures room { vec_capacity answers.new ≡ vec_capacity answers.old }
 {
@@ -161,10 +164,12 @@ fn answer_all(
     for i in 0..events.len() {
         let event = &events[i];
         if let Act::Burst { vcpu, work } = &event.act {
-            let latest = sights[i];
-            let answer = answer_of(
-                course, rounds, crew, runs, ahead, latest, i as u32, *vcpu, *work,
-            );
+            let burst = Burst {
+                event: i as u32,
+                vcpu: *vcpu,
+                work: *work,
+            };
+            let answer = answer_of(course, rounds, crew, known, known.sights[i], burst);
             answers.push_reserved(answer);
         }
     }
@@ -176,24 +181,21 @@ fn answer_of(
     course: &Course,
     rounds: u32,
     crew: &Crew<'_>,
-    runs: &Runs,
-    ahead: &Ahead,
+    known: &Known<'_>,
     latest: u32,
-    event: u32,
-    vcpu: VcpuNo,
-    work: u32,
+    burst: Burst,
 ) -> BurstAnswer
     requires few { rounds ≤ MAX_ROUNDS }
-    requires event { event < length course.now.ticks }
+    requires event { burst.event < length course.now.ticks }
     requires latest { (s : StateValue) → IsKeptRun course.now rounds crew.now s
-        → IsSeenBelow s course.now.cores event latest }
+        → IsSeenBelow s course.now.cores burst.event latest }
     requires kept { (s : StateValue) × IsKeptRun course.now rounds crew.now s
-        × AreRuns rounds s runs.now.pieces.items runs.now.before.items
-        × AreSince course.now s.decided ahead.now.since.items }
-    requires ready { AreReady course.now ahead.now.ready.items }
+        × AreRuns rounds s known.now.runs.now.pieces.items known.now.runs.now.before.items
+        × AreSince course.now s.decided known.now.ahead.now.since.items }
+    requires ready { AreReady course.now known.now.ahead.now.ready.items }
     ensures { (s : StateValue) → IsKeptRun course.now rounds crew.now s
-        → AreRuns rounds s runs.now.pieces.items runs.now.before.items
-        → IsBurstAnswer course.now rounds s event vcpu work result }
+        → AreRuns rounds s known.now.runs.now.pieces.items known.now.runs.now.before.items
+        → IsBurstAnswer course.now rounds s burst.event burst.vcpu burst.work result }
 {
     if u64::from(latest) >= u64::from(rounds) * u64::from(ROUND) {
         return BurstAnswer {
@@ -204,20 +206,19 @@ fn answer_of(
     }
     course.count();
     let used = crew.actor(CoreNo(0)).used();
+    let Burst { vcpu, work, .. } = burst;
     let bound = bound_ahead(
         course,
         rounds,
         used,
-        &ahead.since,
-        &ahead.ready,
-        event,
-        vcpu,
-        work,
+        &known.ahead.since,
+        &known.ahead.ready,
+        burst,
         latest,
     );
     let done = done_in(
-        &runs.pieces,
-        &runs.before,
+        &known.runs.pieces,
+        &known.runs.before,
         vcpu.index() as u32,
         work,
         latest,

@@ -14,7 +14,7 @@ abbrev pub invariant-loop-i : goal.invariant-loop-i
 invariant-loop-i l = record {
   so_far : BurstsSoFar l.events l.i (length l.answers.items);
   each : (s : State) → IsKeptRun l.fn.course l.fn.rounds l.fn.crew s
-      → AreRuns l.fn.rounds s l.fn.runs.pieces.items l.fn.runs.before.items
+      → AreRuns l.fn.rounds s l.fn.known.runs.now.pieces.items l.fn.known.runs.now.before.items
       → (k : ℕ) (b : ScriptBurst) (a : BurstAnswer) → slice_get (bursts_of l.events) k ≡ Some b
       → slice_get l.answers.items k ≡ Some a → IsBurstAnswer l.fn.course l.fn.rounds s b.event b.vcpu b.work a;
   room : vec_capacity l.answers ≡ vec_capacity l.fn.answers;
