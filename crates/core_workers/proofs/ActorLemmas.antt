@@ -24,12 +24,12 @@ use Rattle.core_workers.proofs.Causes.{CoreStep, LeadStep, core_parts, core_step
 -- what a core's answer is to its crew, and the controller's
 abbrev pub core_turn : CoreAnswer → Turn
 core_turn (Ran s) = Moved
-core_turn (Behind who tick) = Waits tick
+core_turn (Behind who tick) = Waits
 core_turn Finished = Ended
 
 abbrev pub lead_turn : ControlAnswer → Turn
 lead_turn (control.Posted count) = Moved
-lead_turn (control.Behind core tick) = Waits tick
+lead_turn (control.Behind core tick) = Waits
 lead_turn control.Finished = Ended
 
 core_as : (a b : ActorView) (v w : View) (answer : CoreAnswer) → b.course ≡ a.course → CoreStep a.course a.state v answer b.state w → Stepped core_kind a v (core_turn answer) b w

@@ -1,5 +1,5 @@
 ghost use Rattle.std.specs.Prelude.{◌≡◌, ◌<◌, ℕ, IfOk, Some, length, slice_index};
-ghost use Rattle.table_form.specs.Running.Courses.{FitsRounds};
+ghost use Rattle.table_form.specs.Running.Courses.{FitsRounds, IsCourse};
 ghost use Rattle.round_words.specs.declared.view.View.{View as ViewValue};
 ghost use Rattle.dispatch_core.specs.States.{StateView};
 ghost use Rattle.round_words.specs.Seats.{view_of, IsSeatOf};
@@ -11,22 +11,20 @@ ghost use Rattle.core_workers.specs.Inside.Making.{ArePlayersNew};
 
 use crate::lead::Lead;
 use crate::member::Member;
-use crew_turns::{Gate, Patience, Player, Site, drive_all};
+use crew_turns::{Gate, Player, Site, drive_all};
 use dispatch_core::CoreState;
 use round_words::{RoundBoard, RoundSeat};
 use slice_table::course_owners;
 use std::alloc::Global;
 use std::marker::Model;
-use std::thread::Threads;
 use tab_core::{CoreNo, NoMemory};
 use table_form::Course;
 
-/// All actors of a run: one for each core, and the controller. Each worker has the crew's patience.
+/// All actors of a run: one for each core, and the controller.
 #[derive(Drop)]
 pub struct Crew<'a> {
     pub(crate) course: &'a Course,
     pub(crate) rounds: u32,
-    pub(crate) patience: Patience,
     pub(crate) cores: Vec<Player<Member<'a>>>,
     pub(crate) lead: Player<Lead<'a>>,
 }
@@ -46,8 +44,7 @@ impl<'a> Crew<'a> {
     /// The actors of a run of so many rounds that has not begun. `keep` says for each core how many stints are kept.
     ///
     /// A run of so many rounds has all events of the course. Fails only when memory runs out.
-    pub fn make<R: Threads>(
-        rt: &R,
+    pub fn make(
         alloc: Global,
         course: &'a Course,
         rounds: u32,
@@ -61,12 +58,10 @@ impl<'a> Crew<'a> {
             → a.keep ≡ slice_index keep.now core) }
     {
         let cores = make_cores(alloc, course, rounds, keep)?;
-        let patience = Patience::of_workers(rt, course.cores());
         let lead = Player::of(Lead::make(course));
         Ok(Crew {
             course,
             rounds,
-            patience,
             cores,
             lead,
         })
@@ -105,8 +100,9 @@ fn make_cores<'a>(
 ) -> Result<Vec<Player<Member<'a>>>, NoMemory>
     requires fits { FitsRounds course.now rounds }
     requires count { length keep.now ≡ course.now.cores }
-    ensures { IfOk result (λ cores. ArePlayersNew course.now rounds keep.now cores.items
+    ensures made { IfOk result (λ cores. ArePlayersNew course.now rounds keep.now cores.items
         × (length cores.items ≡ course.now.cores)) }
+    ensures kept { IfOk result (λ _. IsCourse course.now) }
 {
     let owners = course_owners(alloc, course)?;
     let mut cores = Vec::with_capacity(alloc, course.cores() as usize)?;
@@ -146,11 +142,5 @@ pub fn drive<G: Gate>(board: &RoundBoard, seat: &mut RoundSeat, crew: &mut Crew<
         lag: crew.course.lag(),
         gate,
     };
-    drive_all(
-        &site,
-        seat,
-        &mut crew.cores,
-        &mut crew.lead,
-        Patience::long(),
-    );
+    drive_all(&site, seat, &mut crew.cores, &mut crew.lead);
 }

@@ -63,7 +63,7 @@ impl<'a> Stepper for Lead<'a> {
     fn step(&mut self, board: &RoundBoard, seat: &mut RoundSeat) -> Turn {
         match control_step(board, seat, &mut self.controller) {
             ControlAnswer::Posted { count: _ } => Turn::Moved,
-            ControlAnswer::Behind { core: _, tick } => Turn::Waits { tick },
+            ControlAnswer::Behind { core: _, tick: _ } => Turn::Waits,
             ControlAnswer::Finished => Turn::Ended,
         }
     }

@@ -90,7 +90,7 @@ impl<'a> Stepper for Member<'a> {
     fn step(&mut self, board: &RoundBoard, seat: &mut RoundSeat) -> Turn {
         match step_state(board, seat, self.course, &self.slices, &mut self.state) {
             CoreAnswer::Ran(_) => Turn::Moved,
-            CoreAnswer::Behind { who: _, tick } => Turn::Waits { tick },
+            CoreAnswer::Behind { who: _, tick: _ } => Turn::Waits,
             CoreAnswer::Finished => Turn::Ended,
         }
     }

@@ -1,20 +1,21 @@
--- A seat that is parted for the worker of the last core, and what comes of it when the seats meet again.
-use Rattle.std.proofs.Common.{◌≡◌, ◌≢◌, ℕ, ◌*◌, ◌%◌, ◌<◌, ◌^◌, Bool, true, false, ◌||◌, inl, inr, List, [], ◌∷◌, ◌++◌, length, Some, refl, sym, ap, ap₂, ◌∙◌, subst, arith}
+-- A seat that is parted for a group of cores, and what comes of it when the seats meet again.
+use Rattle.std.proofs.Common.{◌≡◌, ◌⊎◌, ℕ, zero, suc, ◌+◌, ◌<◌, ◌≤◌, Bool, true, false, ◌||◌, inl, inr, List, [], ◌∷◌, ◌++◌, length, Some, refl, sym, ap, ap₂, ◌∙◌, subst, arith}
 use Rattle.std.specs.Prelude.{slice_get}
-use Rattle.std.proofs.lemmas.Grind.{one_shifted}
+use Rattle.std.proofs.lemmas.List.{length-append}
 use Rattle.std.proofs.lemmas.Option.{slice_get_within}
-use mathlib.Core.Logic.{dite}
-use native.Mathlib.Decide.{ℕ_discrete}
-use Rattle.tab_core.proofs.Lists.{push_new, push_old, push_split}
+use Rattle.tab_core.proofs.Lists.{element_at, get_left, get_right}
 use Rattle.round_words.specs.declared.view.View.{View}
 use Rattle.round_words.specs.Views.{both, controller, holds, names, only, part, without}
-use Rattle.round_words.proofs.ListLemmas.{length_push}
-use Rattle.round_words.proofs.MaskLemmas.{holds_both, names_none, names_one}
+use Rattle.round_words.proofs.MaskLemmas.{holds_both}
 use Rattle.round_words.proofs.ViewsLemmas.{both_mine, both_theirs, only_named, only_others, without_named, without_others}
 use Rattle.crew_turns.specs.declared.player.Player.{Player}
 use Rattle.crew_turns.specs.Going.{IsSameBoard, SameActors}
+use Rattle.crew_turns.specs.Groups.{AgreeApart, AreFurther}
 use Rattle.crew_turns.specs.Kinds.{IsLawful, Kind}
+use Rattle.crew_turns.specs.Numbers.{NamesFrom}
 use Rattle.crew_turns.specs.Troops.{AreHeld, AreSame}
+use Rattle.crew_turns.proofs.GoingLemmas.{board_of}
+use Rattle.crew_turns.proofs.GroupLemmas.{number_back}
 
 -- views of one board
 board_without : (m : ℕ) (v : View) → IsSameBoard v (without m v)
@@ -28,9 +29,6 @@ board_both v w = record { started = refl; lag = refl; cores = refl; events = ref
 
 board_back : (v w : View) → IsSameBoard v w → IsSameBoard w v
 board_back v w b = record { started = sym b.started; lag = sym b.lag; cores = sym b.cores; events = sym b.events }
-
-pub board_of : (v w : View) → SameActors v w → IsSameBoard v w
-board_of v w s = record { started = s.started; lag = s.lag; cores = s.cores; events = s.events }
 
 board_twice : (u v w : View) → IsSameBoard u v → IsSameBoard v w → IsSameBoard u w
 board_twice u v w x y = record { started = y.started ∙ x.started; lag = y.lag ∙ x.lag; cores = y.cores ∙ x.cores; events = y.events ∙ x.events }
@@ -53,26 +51,12 @@ actors_met mask v left own x y w is is' one two joined = subst (SameActors v) (s
     by true m v a e = ap₂ (λ (b c : Bool). b || c) (without_named m v a e) (only_named m v a e).0
     by false m v a e = ap₂ (λ (b c : Bool). b || c) (without_others m v a e).0 (only_others m v a e) ∙ or_none (holds v a)
 
--- the mask of core n alone
-pub mask_is : (k n : ℕ) → k ≡ n → n < 32 → 1 * 2 ^ k % 18446744073709551616 ≡ 2 ^ n
-mask_is k n e lt = (one_shifted k 18446744073709551615 refl (omega (arith, e, lt))).0 ∙ ap (λ (i : ℕ). 2 ^ i) e
-
-pub mask_held : (n : ℕ) (v : View) → holds v n ≡ true → (a : ℕ) → names (2 ^ n) a ≡ true → holds v a ≡ true
-mask_held n v has a named = dite (ℕ_discrete a n)
-    (λ e. subst (λ (i : ℕ). holds v i ≡ true) (sym e) has)
-    (λ ne. absurd (no (names (2 ^ n) a) named (names_none n a ne)))
-  where
-    no : (b : Bool) → b ≡ true → b ≡ false → ⊥
-    no b h k = cc
-
--- the controller alone stepped
-pub lead_held : {C L : Type 0} (core : Kind C) (control : Kind L) → IsLawful control → (cores : List (Player C)) (lead lead' : Player L) (v w : View) → length cores ≡ 0
-    → AreHeld core control cores lead v → control.same lead.actor lead'.actor → control.agrees lead'.actor w → AreHeld core control cores lead' w
-lead_held {C} core control laws cores lead lead' v w none held same agrees = record {
-  troop = record { few = held.troop.few; each = held.troop.each; lead_is = laws.numbered lead.actor lead'.actor same ∙ held.troop.lead_is };
-  each = λ i p at. absurd (omega (arith, slice_get_within cores i p at, none));
-  control_agrees = agrees;
-}
+-- what is in two lists is in one of them
+get_either : {X : Type 0} (xs ys : List X) (i : ℕ) (x : X) → slice_get (xs ++ ys) i ≡ Some x
+    → (slice_get xs i ≡ Some x) ⊎ ((j : ℕ) × (slice_get ys j ≡ Some x) × (i ≡ length xs + j))
+get_either [] ys i x at = inr (i, at, omega arith)
+get_either (z ∷ zs) ys zero x at = inl at
+get_either (z ∷ zs) ys (suc i) x at = elim (get_either zs ys i x at) [ inl old ↦ inl old | inr new ↦ inr (new.0, new.1, omega (arith, new.2)) ]
 
 -- the players whose seats have met again are those whose seat was parted
 pub record HaveMet {C L : Type 0} (core : Kind C) (control : Kind L) (cores : List (Player C)) (lead : Player L) (v : View) (cores' : List (Player C)) (lead' : Player L) (w : View) : Type 0 where
@@ -80,114 +64,156 @@ pub record HaveMet {C L : Type 0} (core : Kind C) (control : Kind L) (cores : Li
   pub same : AreSame core control cores lead cores' lead'
   pub actors : SameActors v w
 
+-- a core that agrees is held, at its number
+held_at : {C : Type 0} (core : Kind C) → IsLawful core → (p : Player C) (v : View) (i : ℕ) → core.number p.actor ≡ i → core.agrees p.actor v → holds v i ≡ true
+held_at core laws p v i number agrees = subst (λ (k : ℕ). holds v k ≡ true) number (laws.held p.actor v agrees)
+
+-- a core that agrees with a view agrees with another of the board that has its part
+moved : {C : Type 0} (core : Kind C) → IsLawful core → (p : Player C) (v w : View) (i : ℕ) → core.number p.actor ≡ i → core.agrees p.actor v → IsSameBoard v w
+    → holds w i ≡ true → part w i ≡ part v i → core.agrees p.actor w
+moved core laws p v w i number agrees board has is = laws.parted p.actor v w agrees board (subst (λ (k : ℕ). holds w k ≡ true) (sym number) has)
+    (subst (λ (k : ℕ). part w k ≡ part v k) (sym number) is)
+
 module _ {C L : Type 0} (core : Kind C) (control : Kind L) (core_laws : IsLawful core) (control_laws : IsLawful control)
-    (cores : List (Player C)) (last : Player C) (lead : Player L) (v : View) (held : AreHeld core control (cores ++ last ∷ []) lead v) where
-  abbrev n : ℕ
-  n = length cores
+    (rest group : List (Player C)) (lead : Player L) (v : View) (held : AreHeld core control (rest ++ group) lead v)
+    (mask : ℕ) (named : NamesFrom (length rest) (length group) mask) where
+  many : length rest + length group ≤ controller
+  many = omega (arith, held.troop.few, length-append rest group)
 
-  pub last_number : core.number last.actor ≡ n
-  last_number = held.troop.each n last (push_new cores last)
+  -- a core of the group, and its number
+  at_group : (j : ℕ) (p : Player C) → slice_get group j ≡ Some p → slice_get (rest ++ group) (length rest + j) ≡ Some p
+  at_group j p at = get_right rest group j ∙ at
 
-  pub last_held : holds v n ≡ true
-  last_held = subst (λ (i : ℕ). holds v i ≡ true) last_number (core_laws.held last.actor v (held.each n last (push_new cores last)))
+  group_number : (j : ℕ) (p : Player C) → slice_get group j ≡ Some p → core.number p.actor ≡ length rest + j
+  group_number j p at = held.troop.each (length rest + j) p (at_group j p at)
 
-  pub few_cores : n < controller
-  few_cores = omega (arith, held.troop.few, length_push cores last)
+  group_agrees : (j : ℕ) (p : Player C) → slice_get group j ≡ Some p → core.agrees p.actor v
+  group_agrees j p at = held.each (length rest + j) p (at_group j p at)
 
-  old_apart : (i : ℕ) (p : Player C) → slice_get cores i ≡ Some p → i ≢ n
-  old_apart i p at e = omega (arith, slice_get_within cores i p at, e)
+  named_group : (j : ℕ) (p : Player C) → slice_get group j ≡ Some p → names mask (length rest + j) ≡ true
+  named_group j p at = named.all j (slice_get_within group j p at)
 
-  -- the worker's part
-  pub one_agrees : (w : View) → w ≡ only (2 ^ n) v → core.agrees last.actor w
-  one_agrees w is = let o = only_named (2 ^ n) v n (names_one n) in
-      subst (core.agrees last.actor) (sym is)
-      (core_laws.parted last.actor v (only (2 ^ n) v) (held.each n last (push_new cores last)) (board_only (2 ^ n) v)
-      (subst (λ (i : ℕ). holds (only (2 ^ n) v) i ≡ true) (sym last_number) (o.0 ∙ last_held))
-      (subst (λ (i : ℕ). part (only (2 ^ n) v) i ≡ part v i) (sym last_number) o.1))
+  -- a number that isn't one of the group's
+  unnamed : (a : ℕ) → (a < length rest) ⊎ (length rest + length group ≤ a) → names mask a ≡ false
+  unnamed a away = by (names mask a) refl
+    where
+      by : (b : Bool) → names mask a ≡ b → names mask a ≡ false
+      by false e = e
+      by true e = (let i = named.there a e in absurd (elim away [ inl lt ↦ omega (arith, lt, i.2) | inr le ↦ omega (arith, le, i.1, i.2) ]))
+
+  unnamed_rest : (i : ℕ) (p : Player C) → slice_get rest i ≡ Some p → names mask i ≡ false
+  unnamed_rest i p at = unnamed i (inl (slice_get_within rest i p at))
+
+  unnamed_lead : names mask controller ≡ false
+  unnamed_lead = unnamed controller (inr many)
+
+  -- all of the group's actors are held
+  pub mask_held : (a : ℕ) → names mask a ≡ true → holds v a ≡ true
+  mask_held a on = (let i = named.there a on in
+      let p = element_at group i.0 i.1 in
+      held_at core core_laws p.0 v a (group_number i.0 p.0 p.1 ∙ sym i.2) (group_agrees i.0 p.0 p.1))
+
+  -- the group, whose parts were given
+  pub group_given : (w : View) → w ≡ only mask v → AgreeApart core group w
+  group_given w is = subst (AgreeApart core group) (sym is) (record {
+    each = λ j p at. (let o = only_named mask v (length rest + j) (named_group j p at) in
+        let was = group_agrees j p at in
+        let number = group_number j p at in
+        moved core core_laws p v (only mask v) (length rest + j) number was (board_only mask v) (o.0 ∙ held_at core core_laws p v (length rest + j) number was) o.1);
+    apart = λ i j p q at at' ne e. ne (omega (arith, group_number i p at, group_number j q at', e));
+  })
+
+  pub group_few : length group ≤ 32
+  group_few = omega (arith, many)
 
   -- what is left
-  pub rest_held : (w : View) → w ≡ without (2 ^ n) v → AreHeld core control cores lead w
-  rest_held w is = subst (AreHeld core control cores lead) (sym is) (record {
+  pub rest_kept : (w : View) → w ≡ without mask v → AreHeld core control rest lead w
+  rest_kept w is = subst (AreHeld core control rest lead) (sym is) (record {
     troop = record {
-      few = omega (arith, held.troop.few, length_push cores last);
-      each = λ i p at. held.troop.each i p (push_old cores i last p at);
+      few = omega (arith, many);
+      each = λ i p at. held.troop.each i p (get_left rest group i p at);
       lead_is = held.troop.lead_is;
     };
-    each = λ i p at. (let was = held.each i p (push_old cores i last p at) in
-        let number = held.troop.each i p (push_old cores i last p at) in
-        let o = without_others (2 ^ n) v i (names_none n i (old_apart i p at)) in
-        core_laws.parted p.actor v (without (2 ^ n) v) was (board_without (2 ^ n) v)
-        (subst (λ (k : ℕ). holds (without (2 ^ n) v) k ≡ true) (sym number) (o.0 ∙ subst (λ (k : ℕ). holds v k ≡ true) number (core_laws.held p.actor v was)))
-        (subst (λ (k : ℕ). part (without (2 ^ n) v) k ≡ part v k) (sym number) o.1));
-    control_agrees = (let o = without_others (2 ^ n) v controller (names_none n controller (λ e. omega (arith, e, few_cores))) in
+    each = λ i p at. (let at' = get_left rest group i p at in
+        let o = without_others mask v i (unnamed_rest i p at) in
+        let number = held.troop.each i p at' in
+        moved core core_laws p v (without mask v) i number (held.each i p at') (board_without mask v) (o.0 ∙ held_at core core_laws p v i number (held.each i p at')) o.1);
+    control_agrees = (let o = without_others mask v controller unnamed_lead in
         let number = held.troop.lead_is in
-        control_laws.parted lead.actor v (without (2 ^ n) v) held.control_agrees (board_without (2 ^ n) v)
-        (subst (λ (k : ℕ). holds (without (2 ^ n) v) k ≡ true) (sym number) (o.0 ∙ subst (λ (k : ℕ). holds v k ≡ true) number (control_laws.held lead.actor v held.control_agrees)))
-        (subst (λ (k : ℕ). part (without (2 ^ n) v) k ≡ part v k) (sym number) o.1));
+        moved control control_laws lead v (without mask v) controller number held.control_agrees (board_without mask v)
+        (o.0 ∙ held_at control control_laws lead v controller number held.control_agrees) o.1);
   })
 
   -- the seats meet again
-  module _ (cores' : List (Player C)) (last' : Player C) (lead' : Player L) (left own x y w : View)
-      (left_is : left ≡ without (2 ^ n) v) (own_is : own ≡ only (2 ^ n) v) (rest : AreHeld core control cores' lead' x)
-      (same : AreSame core control cores lead cores' lead') (one : core.agrees last'.actor y) (one_same : core.same last.actor last'.actor)
-      (actors : SameActors left x) (one_actors : SameActors own y) (joined : w ≡ both x y) where
-    number' : core.number last'.actor ≡ n
-    number' = core_laws.numbered last.actor last'.actor one_same ∙ last_number
+  module _ (rest' group' : List (Player C)) (lead' : Player L) (left own x y w : View)
+      (left_is : left ≡ without mask v) (own_is : own ≡ only mask v) (kept : AreHeld core control rest' lead' x)
+      (same : AreSame core control rest lead rest' lead') (given : AgreeApart core group' y) (further : AreFurther core group group')
+      (actors : SameActors left x) (own_actors : SameActors own y) (joined : w ≡ both x y) where
+    -- a core of the group is one that was parted, some steps on
+    group_back : (j : ℕ) (q : Player C) → slice_get group' j ≡ Some q → (core.number q.actor ≡ length rest + j) × (names mask (length rest + j) ≡ true)
+    group_back j q at = (let p = number_back core core_laws group group' further j q at in (p.2 ∙ group_number j p.0 p.1, named_group j p.0 p.1))
 
-    off : holds x n ≡ false
-    off = actors.actors n ∙ (ap (λ (z : View). holds z n) left_is ∙ without_named (2 ^ n) v n (names_one n))
+    off : (a : ℕ) → names mask a ≡ true → holds x a ≡ false
+    off a on = actors.actors a ∙ (ap (λ (z : View). holds z a) left_is ∙ without_named mask v a on)
 
-    one_board : IsSameBoard y (both x y)
-    one_board = board_twice y own (both x y) (board_back own y (board_of own y one_actors))
-        (board_twice own v (both x y) (subst (λ (z : View). IsSameBoard z v) (sym own_is) (board_back v (only (2 ^ n) v) (board_only (2 ^ n) v)))
-        (board_twice v left (both x y) (subst (IsSameBoard v) (sym left_is) (board_without (2 ^ n) v))
+    own_board : IsSameBoard y (both x y)
+    own_board = board_twice y own (both x y) (board_back own y (board_of own y own_actors))
+        (board_twice own v (both x y) (subst (λ (z : View). IsSameBoard z v) (sym own_is) (board_back v (only mask v) (board_only mask v)))
+        (board_twice v left (both x y) (subst (IsSameBoard v) (sym left_is) (board_without mask v))
         (board_twice left x (both x y) (board_of left x actors) (board_both x y))))
 
-    whole_held : AreHeld core control (cores' ++ last' ∷ []) lead' w
-    whole_held = subst (AreHeld core control (cores' ++ last' ∷ []) lead') (sym joined) (record {
+    either_number : (i : ℕ) (p : Player C) → slice_get (rest' ++ group') i ≡ Some p → core.number p.actor ≡ i
+    either_number i p at = elim (get_either rest' group' i p at) [
+      | inl old ↦ kept.troop.each i p old
+      | inr new ↦ omega (arith, (group_back new.0 p new.1).0, new.2, same.count)
+    ]
+
+    either_agrees : (i : ℕ) (p : Player C) → slice_get (rest' ++ group') i ≡ Some p → core.agrees p.actor (both x y)
+    either_agrees i p at = elim (get_either rest' group' i p at) [
+      | inl old ↦ (let was = kept.each i p old in
+          let number = kept.troop.each i p old in
+          let has = held_at core core_laws p x i number was in
+          moved core core_laws p x (both x y) i number was (board_both x y) (holds_both x y i ∙ ap (λ (b : Bool). b || holds y i) has) (both_mine x y i has))
+      | inr new ↦ (let back = group_back new.0 p new.1 in
+          let was = given.each new.0 p new.1 in
+          let theirs = both_theirs x y (length rest + new.0) (off (length rest + new.0) back.1) in
+          moved core core_laws p y (both x y) (length rest + new.0) back.0 was own_board (theirs.0 ∙ held_at core core_laws p y (length rest + new.0) back.0 was) theirs.1)
+    ]
+
+    whole_held : AreHeld core control (rest' ++ group') lead' w
+    whole_held = subst (AreHeld core control (rest' ++ group') lead') (sym joined) (record {
       troop = record {
-        few = omega (arith, few_cores, same.count, length_push cores' last');
-        each = λ i p at. elim (push_split cores' i last' p at) [
-          | inl old ↦ rest.troop.each i p old
-          | inr here ↦ subst (λ (q : Player C). core.number q.actor ≡ i) here.1 (number' ∙ (sym same.count ∙ sym here.0))
-        ];
-        lead_is = rest.troop.lead_is;
+        few = omega (arith, many, same.count, further.count, length-append rest' group');
+        each = either_number;
+        lead_is = kept.troop.lead_is;
       };
-      each = λ i p at. elim (push_split cores' i last' p at) [
-        | inl old ↦ (let was = rest.each i p old in
-            let number = rest.troop.each i p old in
-            let has = subst (λ (k : ℕ). holds x k ≡ true) number (core_laws.held p.actor x was) in
-            core_laws.parted p.actor x (both x y) was (board_both x y)
-            (subst (λ (k : ℕ). holds (both x y) k ≡ true) (sym number) (holds_both x y i ∙ ap (λ (b : Bool). b || holds y i) has))
-            (subst (λ (k : ℕ). part (both x y) k ≡ part x k) (sym number) (both_mine x y i has)))
-        | inr here ↦ subst (λ (q : Player C). core.agrees q.actor (both x y)) here.1
-            (let theirs = both_theirs x y n off in
-            core_laws.parted last'.actor y (both x y) one one_board
-            (subst (λ (k : ℕ). holds (both x y) k ≡ true) (sym number') (theirs.0 ∙ subst (λ (k : ℕ). holds y k ≡ true) number' (core_laws.held last'.actor y one)))
-            (subst (λ (k : ℕ). part (both x y) k ≡ part y k) (sym number') theirs.1))
-      ];
-      control_agrees = (let number = rest.troop.lead_is in
-          let has = subst (λ (k : ℕ). holds x k ≡ true) number (control_laws.held lead'.actor x rest.control_agrees) in
-          control_laws.parted lead'.actor x (both x y) rest.control_agrees (board_both x y)
-          (subst (λ (k : ℕ). holds (both x y) k ≡ true) (sym number) (holds_both x y controller ∙ ap (λ (b : Bool). b || holds y controller) has))
-          (subst (λ (k : ℕ). part (both x y) k ≡ part x k) (sym number) (both_mine x y controller has)));
+      each = either_agrees;
+      control_agrees = (let number = kept.troop.lead_is in
+          let has = held_at control control_laws lead' x controller number kept.control_agrees in
+          moved control control_laws lead' x (both x y) controller number kept.control_agrees (board_both x y)
+          (holds_both x y controller ∙ ap (λ (b : Bool). b || holds y controller) has) (both_mine x y controller has));
     })
 
-    whole_same : AreSame core control (cores ++ last ∷ []) lead (cores' ++ last' ∷ []) lead'
-    whole_same = record {
-      count = omega (arith, same.count, length_push cores last, length_push cores' last');
-      each = λ i p q at at'. elim (push_split cores i last p at) [
-        | inl old ↦ elim (push_split cores' i last' q at') [
-          | inl old' ↦ same.each i p q old old'
-          | inr here' ↦ absurd (omega (arith, slice_get_within cores i p old, here'.0, same.count))
-        ]
-        | inr here ↦ elim (push_split cores' i last' q at') [
-          | inl old' ↦ absurd (omega (arith, slice_get_within cores' i q old', here.0, same.count))
-          | inr here' ↦ subst (λ (z : Player C). core.same z.actor q.actor) here.1 (subst (λ (z : Player C). core.same last.actor z.actor) here'.1 one_same)
-        ]
-      ];
-      same_lead = same.same_lead;
-    }
+    same_either : (i : ℕ) (p q : Player C) → slice_get (rest ++ group) i ≡ Some p → slice_get (rest' ++ group') i ≡ Some q → core.same p.actor q.actor
+    same_either i p q at at' = elim (get_either rest group i p at) [
+      | inl old ↦ elim (get_either rest' group' i q at') [
+        | inl old' ↦ same.each i p q old old'
+        | inr new' ↦ absurd (omega (arith, slice_get_within rest i p old, new'.2, same.count))
+      ]
+      | inr new ↦ elim (get_either rest' group' i q at') [
+        | inl old' ↦ absurd (omega (arith, slice_get_within rest' i q old', new.2, same.count))
+        | inr new' ↦ (let e : new'.0 ≡ new.0 = omega (arith, new.2, new'.2, same.count) in
+            further.each new.0 p q new.1 (subst (λ (k : ℕ). slice_get group' k ≡ Some q) e new'.1))
+      ]
+    ]
 
-    pub have_met : HaveMet core control (cores ++ last ∷ []) lead v (cores' ++ last' ∷ []) lead' w
-    have_met = record { held = whole_held; same = whole_same; actors = actors_met (2 ^ n) v left own x y w left_is own_is actors one_actors joined }
+    pub have_met : (cores : List (Player C)) → cores ≡ rest ++ group → HaveMet core control cores lead v (rest' ++ group') lead' w
+    have_met cores cut = record {
+      held = whole_held;
+      same = subst (λ (ps : List (Player C)). AreSame core control ps lead (rest' ++ group') lead') (sym cut) (record {
+        count = omega (arith, same.count, further.count, length-append rest group, length-append rest' group');
+        each = same_either;
+        same_lead = same.same_lead;
+      });
+      actors = actors_met mask v left own x y w left_is own_is actors own_actors joined;
+    }

@@ -17,6 +17,9 @@ actors_twice u v w x y = record { started = y.started ∙ x.started; lag = y.lag
 pub actors_step : (v w : View) (c : ℕ) → ChangesOnly v w c → SameActors v w
 actors_step v w c o = record { started = o.started; lag = o.lag; cores = o.cores; events = o.events; actors = λ a. o.actors a }
 
+pub board_of : (v w : View) → SameActors v w → IsSameBoard v w
+board_of v w s = record { started = s.started; lag = s.lag; cores = s.cores; events = s.events }
+
 pub board_step : (v w : View) (c : ℕ) → ChangesOnly v w c → IsSameBoard v w
 board_step v w c o = record { started = o.started; lag = o.lag; cores = o.cores; events = o.events }
 

@@ -15,8 +15,7 @@ use Rattle.crew_turns.specs.Kinds.{IsLawful, Kind}
 use Rattle.crew_turns.specs.Troops.{AreAgreed, AreAtRest, AreSame, HaveEnded, LeastWaits}
 use Rattle.crew_turns.specs.Inside.Clocks.{AreTicks, IsClockOf, IsPosting, lead_left}
 use Rattle.crew_turns.specs.Inside.Turns.{AreCores, CoresGoOn, CoresTold, LeastStuck, TurnTold, left_to_do, or_stops, or_waits}
-use Rattle.crew_turns.proofs.BesideLemmas.{board_of}
-use Rattle.crew_turns.proofs.GoingLemmas.{actors_twice, board_step, parts_more}
+use Rattle.crew_turns.proofs.GoingLemmas.{actors_twice, board_of, board_step, parts_more}
 
 -- steps of cores, one after another
 pub cores_twice : {C : Type 0} (core : Kind C) → IsLawful core → (x y z : List (Player C)) (u v w : View) → CoresGoOn core x u y v → CoresGoOn core y v z w → CoresGoOn core x u z w

@@ -45,6 +45,6 @@ pub record IsLawful {A : Type 0} (kind : Kind A) : Type 0 where
 -- what came of a step
 abbrev pub Stepped : {A : Type 0} → Kind A → A → View → Turn → A → View → Type 0
 Stepped kind a v Moved b w = kind.place a < kind.place b
-Stepped kind a v (Waits tick) b w = (kind.place b ≡ kind.place a) × IsQuiet v w × kind.waits b v w
+Stepped kind a v Waits b w = (kind.place b ≡ kind.place a) × IsQuiet v w × kind.waits b v w
 Stepped kind a v Stopped b w = (kind.place b ≡ kind.place a) × IsQuiet v w × kind.waits b v w
 Stepped kind a v Ended b w = (kind.place b ≡ kind.place a) × IsQuiet v w × kind.has_ended b

@@ -1,4 +1,5 @@
 pub mod Going
+pub mod Groups
 pub mod Inside
 pub mod Kinds
 pub mod Numbers

@@ -1,29 +1,43 @@
-ghost use Rattle.std.specs.Prelude.{◌≡◌, length, vec_capacity};
+ghost use Rattle.std.specs.Prelude.{◌≡◌, ◌<◌, ◌≤◌, length, vec_capacity};
 ghost use denote.Param.Send.{IsSync};
 ghost use Rattle.round_words.specs.Seats.{view_of, IsSeatOf};
 ghost use Rattle.crew_turns.specs.Going.{SameActors};
+ghost use Rattle.crew_turns.specs.Groups.{AgreeApart, AreFurther};
 ghost use Rattle.crew_turns.specs.Troops.{AreHeld, AreSame};
 
 use crate::gate::Gate;
+use crate::mask::mask_from;
 use crate::patience::Patience;
+use crate::phase::Phase;
 use crate::player::Player;
-use crate::stepper::{Site, Stepper};
-use crate::working::work;
+use crate::stepper::{CoreStepper, Site, Stepper};
+use crate::working::{work_all, work_cores};
 use round_words::RoundSeat;
-use std::thread::{Threads, join};
+use std::sync::atomic::AtomicBool;
+use std::thread::{Threads, available_parallelism, join_mut};
+use std::time::{Clock, Duration};
 
-/// The last of the cores gets a worker, in a thread of its own where there is one, and so do the others; the controller is
-/// worked on beside them. At last all seats meet.
+// For how many microseconds each thread of the first phase may wait whatever its work. Each further phase has half of it.
+const FREE: u64 = 10_000;
+
+/// The cores and the controller step side by side for as long as it pays, in phases: by a worker for each core and one thread for the
+/// controller, then by as many threads as there are processors, then by half as many, down to two. All seats meet after each.
 ///
-/// The seat holds the parts of these cores, which are those of the lowest numbers, and the controller's. It may wait for
-/// the threads that it has started.
-pub fn work_beside<R: Threads + Sync, C: Stepper + Drop + Send, L: Stepper + Drop + Send, G: Gate>(
+/// A thread gives up once it has waited for longer than its work and the phase allow (`Phase::allows`), and the others with it. A phase
+/// for which not all threads could be made is the last. `ready` says whether waiting counts yet. What is left is for the caller to
+/// drive. It may wait for the threads that it has started.
+pub fn work_beside<
+    R: Threads + Clock + Sync,
+    C: CoreStepper + Drop + Send,
+    L: Stepper + Drop + Send,
+    G: Gate,
+>(
     rt: &R,
     site: &Site<'_, G>,
     mut seat: RoundSeat,
     mut cores: Vec<Player<C>>,
-    lead: Player<L>,
-    patience: Patience,
+    mut lead: Player<L>,
+    ready: &AtomicBool,
 ) -> (RoundSeat, Vec<Player<C>>, Player<L>)
     requires board { IsSeatOf site.now.board.now seat }
     requires held { AreHeld C.kind L.kind cores.items lead (view_of seat) }
@@ -33,29 +47,134 @@ pub fn work_beside<R: Threads + Sync, C: Stepper + Drop + Send, L: Stepper + Dro
     ensures actors { SameActors (view_of seat) (view_of result.0) }
     ensures room { vec_capacity result.1 ≡ vec_capacity cores }
 {
-    let Some(player) = cores.pop() else {
-        let (seat, lead) = work(site, seat, lead, patience);
-        return (seat, cores, lead);
-    };
-    let (board, lag, gate) = (site.board, site.lag, site.gate);
-    let own = board.part(&mut seat, 1 << cores.len());
-    let ((own, player), (mut seat, mut cores, lead)) = join(
-        rt,
-        move || -> (RoundSeat, Player<C>)
-            requires { IsSync G.row × IsSeatOf board.now own × C.kind.agrees player.actor (view_of own) }
-            ensures { IsSeatOf board.entry.now result.0 × C.kind.agrees result.1.actor (view_of result.0)
-                × C.kind.same player.actor result.1.actor × SameActors (view_of own) (view_of result.0) }
-        { work(&Site { board, lag, gate }, own, player, patience) },
-        move || -> (RoundSeat, Vec<Player<C>>, Player<L>)
-            requires { IsSync R.row × IsSync G.row × IsSeatOf board.now seat
-                × AreHeld C.kind L.kind cores.items lead (view_of seat) }
-            ensures { IsSeatOf board.entry.now result.0
-                × AreHeld C.kind L.kind result.1.items result.2 (view_of result.0)
-                × AreSame C.kind L.kind cores.items lead result.1.items result.2
-                × SameActors (view_of seat) (view_of result.0) × (vec_capacity result.1 ≡ vec_capacity cores) }
-        { work_beside(rt, &Site { board, lag, gate }, seat, cores, lead, patience) },
-    );
-    board.meet(&mut seat, own);
-    cores.push_reserved(player);
+    let processors = processors(rt);
+    let mut threads = cores.len() as u32 + 1;
+    let mut free = FREE;
+    'phases: while threads > 1 {
+        let allowed = Duration::from_micros(free);
+        let phase = Phase::of(threads, processors, free < FREE, allowed, ready);
+        make_phase(rt, site, &phase, threads, &mut seat, &mut cores, &mut lead);
+        threads = fewer(&phase, threads, processors);
+        free /= 2;
+    }
+    site.gate.dealt(1, together(&cores));
     (seat, cores, lead)
+}
+
+// So many threads go on as far as the phase allows.
+fn make_phase<
+    R: Threads + Clock + Sync,
+    C: CoreStepper + Drop + Send,
+    L: Stepper + Drop + Send,
+    G: Gate,
+>(
+    rt: &R,
+    site: &Site<'_, G>,
+    phase: &Phase<'_>,
+    threads: u32,
+    seat: &mut RoundSeat,
+    cores: &mut Vec<Player<C>>,
+    lead: &mut Player<L>,
+)
+    requires board { IsSeatOf site.now.board.now seat.old }
+    requires held { AreHeld C.kind L.kind cores.old.items lead.old (view_of seat.old) }
+    ensures board { IsSeatOf site.now.board.now seat.new }
+    ensures held { AreHeld C.kind L.kind cores.new.items lead.new (view_of seat.new) }
+    ensures same { AreSame C.kind L.kind cores.old.items lead.old cores.new.items lead.new }
+    ensures actors { SameActors (view_of seat.old) (view_of seat.new) }
+    ensures room { vec_capacity cores.new ≡ vec_capacity cores.old }
+{
+    let (board, lag, gate) = (site.board, site.lag, site.gate);
+    gate.dealt(threads, together(cores));
+    let site = Site { board, lag, gate };
+    spread(&*rt, &site, &*phase, threads, seat, cores, lead);
+}
+
+// How many threads make the next phase: none beside this one where all have ended, or where not all threads could be made; otherwise
+// as many as there are processors, or half as many as now.
+fn fewer(phase: &Phase<'_>, threads: u32, processors: u32) -> u32
+    requires { 1 < threads }
+    ensures { result < threads }
+{
+    if !phase.is_over() || !phase.has_all() {
+        return 1;
+    }
+    if threads <= processors {
+        return threads / 2;
+    }
+    phase
+        .at_work()
+        .saturating_sub(1)
+        .min(processors)
+        .min(threads - 1)
+}
+
+// How far the cores are together, in ticks.
+fn together<C: CoreStepper + Drop>(cores: &[Player<C>]) -> u64 {
+    let mut ticks = 0u64;
+    for player in cores {
+        ticks = ticks.saturating_add(u64::from(player.actor.place()));
+    }
+    ticks
+}
+
+// How many processors there are, or 1 where that isn't known.
+fn processors<R: Threads>(rt: &R) -> u32 {
+    match available_parallelism(rt) {
+        Ok(count) => u32::try_from(count.get()).unwrap_or(u32::MAX),
+        Err(_) => 1,
+    }
+}
+
+// So many threads step the cores, each its group of neighbours. The thread of the call has the lowest numbers, and the controller.
+fn spread<
+    'x,
+    R: Threads + Clock + Sync,
+    C: CoreStepper + Drop + Send,
+    L: Stepper + Drop + Send,
+    G: Gate,
+>(
+    rt: &'x R,
+    site: &'x Site<'x, G>,
+    phase: &'x Phase<'x>,
+    threads: u32,
+    seat: &mut RoundSeat,
+    cores: &mut [Player<C>],
+    lead: &mut Player<L>,
+)
+    requires board { IsSeatOf site.now.board.now seat.old }
+    requires held { AreHeld C.kind L.kind cores.old lead.old (view_of seat.old) }
+    ensures board { IsSeatOf site.now.board.now seat.new }
+    ensures held { AreHeld C.kind L.kind cores.new lead.new (view_of seat.new) }
+    ensures same { AreSame C.kind L.kind cores.old lead.old cores.new lead.new }
+    ensures actors { SameActors (view_of seat.old) (view_of seat.new) }
+{
+    if threads <= 1 || cores.is_empty() {
+        let patience = Patience::of(rt, phase);
+        work_all(site, patience, seat, cores, lead);
+        return;
+    }
+    let count = cores.len();
+    let size = count.div_ceil(threads as usize);
+    let first = count - size;
+    let (rest, group) = cores.split_at_mut(first);
+    let mut own = site.board.part(seat, mask_from(first as u32, size as u32));
+    join_mut(
+        rt,
+        &mut ||
+            requires { IsSync R.row × IsSync G.row × IsSeatOf site.now.board.now own × (length group.now ≤ 32)
+                × AgreeApart C.kind group.now (view_of own) }
+            ensures { IsSeatOf site.entry.now.board.now own.exit × AgreeApart C.kind group.exit.now (view_of own.exit)
+                × AreFurther C.kind group.entry.now group.exit.now × SameActors (view_of own.entry) (view_of own.exit) }
+        { work_cores(site, Patience::of(rt, phase), &mut own, group) },
+        &mut ||
+            requires { IsSync R.row × IsSync G.row × IsSeatOf site.now.board.now seat.now
+                × AreHeld C.kind L.kind rest.now lead.now (view_of seat.now) × (1 < threads) }
+            ensures { IsSeatOf site.entry.now.board.now seat.exit.now
+                × AreHeld C.kind L.kind rest.exit.now lead.exit.now (view_of seat.exit.now)
+                × AreSame C.kind L.kind rest.entry.now lead.entry.now rest.exit.now lead.exit.now
+                × SameActors (view_of seat.entry.now) (view_of seat.exit.now) }
+        { spread(rt, site, phase, threads - 1, seat, rest, lead) },
+    );
+    site.board.meet(seat, own);
 }

@@ -7,10 +7,11 @@ ghost use Rattle.crew_turns.specs.declared.driving.Rest.TheVariants.{Ended as Ha
 use crate::clocks::read_clocks;
 use crate::gate::Gate;
 use crate::guess::Guess;
-use crate::patience::Patience;
+use crate::patience::PATIENCE;
 use crate::player::Player;
 use crate::stepper::{CoreStepper, Site, Stepper};
 use crate::turning::{Progress, Roster, turn};
+use crossbeam_utils::Backoff;
 use round_words::RoundSeat;
 
 // the controller's number as an actor
@@ -21,14 +22,14 @@ const CONTROLLER: u32 = 32;
 pub enum Rest {
     /// All of them have ended.
     Ended,
-    /// None got on for as long as the patience lasts.
+    /// None got on in `PATIENCE` turns in a row.
     Waits,
     /// None gets on, and one of them waits for what won't come in this run.
     Stopped,
 }
 
-/// Turns of those actors whose parts the seat holds, until all of them have ended, or none of them got on for as long as the
-/// patience lasts, or none gets on since one waits for what won't come.
+/// Turns of those actors whose parts the seat holds, until all of them have ended, or none of them got on in `PATIENCE` turns in
+/// a row, or none gets on since one waits for what won't come.
 ///
 /// Each actor whose part is held agrees with it, which it does again afterwards. At the end these actors are at rest.
 pub fn drive_all<C: CoreStepper + Drop, L: Stepper + Drop, G: Gate>(
@@ -36,7 +37,6 @@ pub fn drive_all<C: CoreStepper + Drop, L: Stepper + Drop, G: Gate>(
     seat: &mut RoundSeat,
     cores: &mut [Player<C>],
     lead: &mut Player<L>,
-    mut patience: Patience,
 ) -> Rest
     requires board { IsSeatOf site.now.board.now seat.old }
     requires agreed { AreAgreed C.kind L.kind cores.old lead.old (view_of seat.old) }
@@ -54,16 +54,19 @@ pub fn drive_all<C: CoreStepper + Drop, L: Stepper + Drop, G: Gate>(
         ticks,
         posting: seat.holds(CONTROLLER),
         guess,
-        awaits: 0,
         turns: 0,
     };
-    let mut left = patience.turns();
+    let backoff = Backoff::new();
+    let mut left = PATIENCE;
     'driving: while left > 0 {
         match turn(site, seat, cores, lead, &mut roster) {
-            Progress::Moved => left = patience.turns(),
+            Progress::Moved => {
+                left = PATIENCE;
+                backoff.reset();
+            }
             Progress::Waits => {
                 left -= 1;
-                patience.wait(left);
+                backoff.snooze();
             }
             Progress::Stopped => return Rest::Stopped,
             Progress::Done => return Rest::Ended,

@@ -6,6 +6,10 @@ pub trait Gate: Sync {
     /// Is called after `pass` for a core or the controller, with how far it is too: a core's clock, in ticks, or how
     /// many events the controller has posted. It does nothing unless a gate says otherwise.
     fn reached(&self, _actor: u32, _step: u64, _place: u32) {}
+
+    /// Is called when the actors that have not ended are dealt to so many threads, with how far all cores
+    /// are together, in ticks. It does nothing unless a gate says otherwise.
+    fn dealt(&self, _threads: u32, _ticks: u64) {}
 }
 
 /// Lets everybody pass.

@@ -1,4 +1,5 @@
-//! Actors that step by seats of one board: each by a worker in a thread of its own, or all of them in turns by one thread.
+//! Actors that step by seats of one board: each by a worker in a thread of its own, then by fewer threads, or all of them in turns by
+//! one thread.
 //!
 //! What an actor is, when it agrees with a view and why it waits is a matter of its kind (`specs/Kinds.antt`): a trait's ghost, with the
 //! laws by which steps of other actors leave it in peace. So one crew serves runs whose plans are known and runs whose plans are made
@@ -10,7 +11,9 @@ mod clocks;
 mod driving;
 mod gate;
 mod guess;
+mod mask;
 mod patience;
+mod phase;
 mod player;
 mod running;
 mod stepper;
@@ -22,6 +25,6 @@ pub use clocks::{Least, OUT, find_least};
 pub use driving::{Rest, drive_all};
 pub use gate::{FreeGate, Gate, Pass};
 pub use guess::Guess;
-pub use patience::{PATIENCE, Patience};
+pub use patience::PATIENCE;
 pub use player::Player;
 pub use stepper::{CoreStepper, Site, Stepper, Turn};

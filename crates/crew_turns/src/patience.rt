@@ -1,103 +1,162 @@
-ghost use Rattle.std.specs.Prelude.{◌<◌, ◌≤◌};
-
+use crate::phase::Phase;
+use crate::turning::Progress;
 use std::hint::spin_loop;
-use std::thread::{Threads, available_parallelism, yield_now};
+use std::thread::{sleep, yield_now};
+use std::time::{Clock, Duration, Instant};
 
-/// How many turns in a row in which nobody gets on are made before the actors are left as they are.
+/// How many turns in a row in which nobody gets on end `drive_all`, and a worker's thread too at the latest.
 pub const PATIENCE: u32 = 10_000_000;
 
-// how many turns in a row a thread spins that has a processor of its own: some half a millisecond
-const SPINS: u32 = 4_000;
+// In how many turns of a wait a thread doesn't give up: some 0.1 ms. It spins, and lets others have its processor after some turns
+// and twice, four times and eight times as many, since they may include the one that it waits for. A yield takes half a microsecond
+// on an idle machine, and a time slice of some 4 ms on a busy one.
+const SPINS: u32 = 1_024;
 
-// how many it spins that may have to share one
 const FEW_SPINS: u32 = 64;
 
-// how often a worker lets others have its processor, where each has one of its own but may not have it at this moment
-const YIELDS: u32 = 2;
+// For how many microseconds a thread sleeps where it waits for plans that are still being made.
+const NAP: u64 = 100;
 
-/// How long a thread whose actors can't get on waits for the others: so many turns in a row it spins, and so many
-/// more in which it lets others have its processor. A worker, after which all parts are driven together, waits
-/// little.
-#[derive(Clone, Copy)]
-pub struct Patience {
-    spins: u32,
-    yields: u32,
-    // whether yields come anew with each wait
-    renews: bool,
-    // how often waiting begins anew since another actor was seen to get on
-    sights: u32,
+/// How long a thread goes on whose actors wait for those of other threads, by the clock: a phase allows so much waiting for so much
+/// work. Waiting counts from the time on when all threads have come and all plans are made.
+#[derive(Drop)]
+pub(crate) struct Patience<'a, K: Clock> {
+    clock: &'a K,
+    phase: &'a Phase<'a>,
+    // How many turns in a row were in vain.
+    vain: u32,
+    // When the time began that counts, and how long the waits since then were.
+    begun: Option<Instant>,
+    waited: Duration,
+    // When the present wait began to count.
+    since: Option<Instant>,
+    // Whether all threads were seen to have come.
+    sees_all: bool,
 }
 
-impl Patience {
-    /// That of so many workers and the thread that has the controller.
-    ///
-    /// Where there is a processor for each of them, a worker waits as long as it sees others get on, and half a
-    /// millisecond for one that doesn't. It lets others have its processor twice in all: on a busy machine that takes
-    /// milliseconds, in which one thread gets further. Where there are fewer processors it waits for nobody.
-    pub fn of_workers<R: Threads>(rt: &R, workers: u32) -> Patience {
-        if (workers as usize) < processors(rt) {
-            Patience {
-                spins: SPINS,
-                yields: YIELDS,
-                renews: false,
-                sights: u32::MAX,
-            }
-        } else {
-            Patience {
-                spins: FEW_SPINS,
-                yields: 0,
-                renews: false,
-                sights: 0,
-            }
-        }
-    }
-
-    /// The patience of a thread after which nobody goes on: `PATIENCE` turns.
-    pub fn long() -> Patience {
+impl<'a, K: Clock> Patience<'a, K> {
+    /// That of a thread that comes to the phase now.
+    pub(crate) fn of(clock: &'a K, phase: &'a Phase<'a>) -> Self {
+        phase.come();
         Patience {
-            spins: FEW_SPINS,
-            yields: PATIENCE - FEW_SPINS,
-            renews: true,
-            sights: 0,
+            clock,
+            phase,
+            vain: 0,
+            begun: Instant::now(clock).ok(),
+            waited: Duration::ZERO,
+            since: None,
+            sees_all: false,
         }
     }
 
-    /// How many turns in a row it is, from now on.
-    pub fn turns(&self) -> u32
-        ensures some { 0 < result }
-        ensures few { result ≤ PATIENCE }
-    {
-        self.spins
-            .saturating_add(self.yields)
-            .saturating_add(1)
-            .min(PATIENCE)
+    /// Whether the thread is to make another turn, after one of which this came. It may wait for a moment before.
+    #[inline(always)]
+    pub(crate) fn goes_on(&mut self, progress: Progress) -> bool {
+        if progress == Progress::Moved {
+            if self.vain > 0 {
+                self.end_wait();
+            }
+            return true;
+        }
+        self.waits_on(progress)
     }
 
-    /// How often a wait begins anew where another actor was seen to get on.
-    pub fn sights(&self) -> u32 {
-        self.sights
+    // Whether it is to make another turn after one in vain.
+    #[inline(never)]
+    fn waits_on(&mut self, progress: Progress) -> bool {
+        match progress {
+            Progress::Moved => true,
+            Progress::Waits => {
+                let goes_on = self.waits();
+                if !goes_on {
+                    self.phase.end();
+                }
+                goes_on
+            }
+            Progress::Stopped => {
+                self.phase.end();
+                false
+            }
+            Progress::Done => {
+                self.phase.done();
+                false
+            }
+        }
     }
 
-    /// Waits for a moment before the next turn, where so many are left.
-    pub fn wait(&mut self, left: u32) {
-        if left > self.yields {
+    // The wait is over.
+    #[inline(never)]
+    fn end_wait(&mut self) {
+        self.vain = 0;
+        let Some(since) = self.since else {
+            return;
+        };
+        self.since = None;
+        if let Ok(wait) = since.elapsed(self.clock) {
+            self.waited = self.waited.saturating_add(wait);
+        }
+    }
+
+    // Waits for a moment, if the thread is to go on.
+    fn waits(&mut self) -> bool {
+        self.vain = self.vain.saturating_add(1);
+        if self.vain == 1 {
+            if self.phase.is_over() {
+                return false;
+            }
+            if self.phase.is_strict() {
+                self.since = Instant::now(self.clock).ok();
+            }
+        }
+        if self.vain < SPINS {
+            self.spin();
+            return true;
+        }
+        self.vain < PATIENCE && !self.phase.is_over() && self.pays()
+    }
+
+    // Spins for a moment, or lets others have the processor.
+    fn spin(&mut self) {
+        if self.vain < FEW_SPINS || !self.vain.is_power_of_two() {
             spin_loop();
             return;
         }
-        if left == 0 {
-            return;
-        }
-        if !self.renews {
-            self.yields = left - 1;
+        if self.since.is_none() {
+            self.since = Instant::now(self.clock).ok();
         }
         yield_now();
     }
-}
 
-// How many processors there are, or 1 where that isn't known.
-fn processors<R: Threads>(rt: &R) -> usize {
-    match available_parallelism(rt) {
-        Ok(count) => count.get(),
-        Err(_) => 1,
+    // Whether it pays to wait on, by the clock. If so, others had the processor for a moment.
+    #[inline(never)]
+    fn pays(&mut self) -> bool {
+        let Ok(now) = Instant::now(self.clock) else {
+            return false;
+        };
+        if !self.phase.is_ready() {
+            self.begin(now);
+            sleep(self.clock, Duration::from_micros(NAP));
+            return true;
+        }
+        if !self.sees_all && self.phase.has_all() {
+            self.sees_all = true;
+            self.begin(now);
+        }
+        let since = self.since.unwrap_or(now);
+        self.since = Some(since);
+        let waited = self.waited.saturating_add(now.duration_since(since));
+        let whole = now.duration_since(self.begun.unwrap_or(now));
+        if waited > self.phase.allows(whole.saturating_sub(waited)) {
+            return false;
+        }
+        yield_now();
+        true
+    }
+
+    // The time that counts begins.
+    fn begin(&mut self, now: Instant) {
+        self.begun = Some(now);
+        self.waited = Duration::ZERO;
+        self.since = Some(now);
     }
 }

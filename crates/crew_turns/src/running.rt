@@ -40,7 +40,7 @@ pub(crate) fn run_player<C: CoreStepper + Drop, G: Gate>(
         let turn = step_player(site, seat, player, limit);
         match turn {
             Turn::Moved => clock = player.actor.place(),
-            Turn::Waits { tick: _ } | Turn::Stopped => return Reached { clock, turn },
+            Turn::Waits | Turn::Stopped => return Reached { clock, turn },
             Turn::Ended => return Reached { clock: OUT, turn },
         }
     }

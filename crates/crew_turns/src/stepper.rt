@@ -14,8 +14,8 @@ use round_words::{RoundBoard, RoundSeat};
 pub enum Turn {
     /// It got on.
     Moved,
-    /// It waits for another actor, which it saw at this tick.
-    Waits { tick: u32 },
+    /// It waits for another actor.
+    Waits,
     /// It waits for what won't come in this run.
     Stopped,
     /// It has done all.

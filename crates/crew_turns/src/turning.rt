@@ -28,14 +28,12 @@ pub(crate) enum Progress {
 }
 
 /// What turns go by: by number the clocks of those cores that are to go on, and OUT for each other; whether the controller is to
-/// go on; a guess which core has the least clock; at which tick the actor was for which one waited last; and how many turns were
-/// made since the controller's last step.
+/// go on; a guess which core has the least clock; and how many turns were made since the controller's last step.
 #[derive(Drop)]
 pub(crate) struct Roster {
     pub(crate) ticks: [u32; 32],
     pub(crate) posting: bool,
     pub(crate) guess: Guess,
-    pub(crate) awaits: u32,
     pub(crate) turns: u32,
 }
 
@@ -74,10 +72,7 @@ pub(crate) fn turn<C: CoreStepper + Drop, L: Stepper + Drop, G: Gate>(
     roster.turns = 0;
     match step_player(site, seat, lead, 0) {
         Turn::Moved => Progress::Moved,
-        Turn::Waits { tick } => {
-            roster.awaits = tick;
-            or_waits(progress)
-        }
+        Turn::Waits => or_waits(progress),
         Turn::Stopped => or_stops(progress),
         Turn::Ended => {
             roster.posting = false;
@@ -87,7 +82,7 @@ pub(crate) fn turn<C: CoreStepper + Drop, L: Stepper + Drop, G: Gate>(
 }
 
 // What a turn is in which the controller waits.
-fn or_waits(cores: Progress) -> Progress
+pub(crate) fn or_waits(cores: Progress) -> Progress
     ensures { result ≡ or_waits cores }
 {
     match cores {
@@ -98,7 +93,7 @@ fn or_waits(cores: Progress) -> Progress
 }
 
 // What a turn is in which the controller waits for what won't come.
-fn or_stops(cores: Progress) -> Progress
+pub(crate) fn or_stops(cores: Progress) -> Progress
     ensures { result ≡ or_stops cores }
 {
     match cores {
@@ -225,10 +220,7 @@ fn run_core<C: CoreStepper + Drop, G: Gate>(
     let reached = run_player(site, seat, player, limit);
     if reached.clock == roster.ticks[core as usize] {
         return match reached.turn {
-            Turn::Waits { tick } => {
-                roster.awaits = tick;
-                Progress::Waits
-            }
+            Turn::Waits => Progress::Waits,
             Turn::Moved | Turn::Stopped | Turn::Ended => Progress::Stopped,
         };
     }

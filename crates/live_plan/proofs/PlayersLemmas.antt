@@ -41,15 +41,15 @@ live_others b a v w c agrees changes away = live_part b a v w agrees (board_step
 -- what a core's answer is to its crew, and the controller's
 abbrev pub core_turn : LiveAnswer → Turn
 core_turn (Ran stint) = turn.Moved
-core_turn (Behind who tick) = turn.Waits tick
-core_turn (NotMade change) = turn.Waits 0
+core_turn (Behind who tick) = turn.Waits
+core_turn (NotMade change) = turn.Waits
 core_turn (Stopped change) = turn.Stopped
 core_turn Finished = turn.Ended
 
 abbrev pub lead_turn : LiveControl → Turn
 lead_turn (lead.Posted count) = turn.Moved
-lead_turn (lead.Behind core tick) = turn.Waits tick
-lead_turn (lead.NotMade change) = turn.Waits 0
+lead_turn (lead.Behind core tick) = turn.Waits
+lead_turn (lead.NotMade change) = turn.Waits
 lead_turn (lead.Stopped change) = turn.Stopped
 lead_turn lead.Finished = turn.Ended
 
@@ -83,8 +83,8 @@ module _ (m : MemberView) (n : LiveActorView) (v w : View) (s t : ShelfView) (ag
   clock_stays : IsQuiet v w → n.state.clock ≡ m.actor.state.clock
   clock_stays quiet = clock_now ∙ (quiet.clocks c ∙ sym agrees.agrees.stands.clock)
 
-  still : (tick : ℕ) → IsQuiet v w → Stepped live_core_kind m v (turn.Waits tick) (member_view m.book n) w
-  still tick quiet = (clock_stays quiet, quiet, tt)
+  still : IsQuiet v w → Stepped live_core_kind m v turn.Waits (member_view m.book n) w
+  still quiet = (clock_stays quiet, quiet, tt)
 
   needs_quiet : (change : ℕ) → NeedsChange m.book rounds c v change w → IsQuiet v w
   needs_quiet change needs = begun_quiet o c v w changes needs.seen needs.begins.enters
@@ -97,10 +97,10 @@ module _ (m : MemberView) (n : LiveActorView) (v w : View) (s t : ShelfView) (ag
       → Stepped live_core_kind m v (core_turn answer) (member_view m.book n) w
   core_told (Ran stint) told = let goes = told.goes in
       omega (arith, later o c v w changes goes.0 goes.1 goes.2.enters stint goes.3, agrees.agrees.stands.clock, clock_now)
-  core_told (Behind who tick) told = still tick (waits_quiet who tick told.0.step.goes)
-  core_told (NotMade change) told = still 0 (needs_quiet change told.0)
-  core_told (Stopped change) (inl needs, knows) = still 0 (needs_quiet change needs)
-  core_told (Stopped change) (inr before, knows) = still 0 (waits_quiet before.who before.tick before.waits.step.goes)
+  core_told (Behind who tick) told = still (waits_quiet who tick told.0.step.goes)
+  core_told (NotMade change) told = still (needs_quiet change told.0)
+  core_told (Stopped change) (inl needs, knows) = still (needs_quiet change needs)
+  core_told (Stopped change) (inr before, knows) = still (waits_quiet before.who before.tick before.waits.step.goes)
   core_told Finished told =
       let quiet = subst (IsQuiet v) (sym told.1) (quiet_none v) in
       let stays = clock_stays quiet in
@@ -120,8 +120,8 @@ module _ (k : LeadView) (l : ControlState) (v w : View) (s t : ShelfView) (was :
   lead_goes lead.Finished told = lead_parts (bare k.book) n v w control.Finished changes told
 
   -- where nothing happened
-  nothing : (tick : ℕ) → w ≡ v → Stepped live_lead_kind k v (turn.Waits tick) (lead_view k.book l) w
-  nothing tick is = (
+  nothing : w ≡ v → Stepped live_lead_kind k v turn.Waits (lead_view k.book l) w
+  nothing is = (
     now.posted ∙ (ap (λ (u : View). length (part u controller).floors) is ∙ sym was.posted),
     subst (IsQuiet v) (sym is) (quiet_none v),
     tt,
@@ -132,6 +132,6 @@ module _ (k : LeadView) (l : ControlState) (v w : View) (s t : ShelfView) (was :
   lead_told (lead.Posted count) told = lead_stepped (bare k.book) k.control l v w (control.Posted count) was now changes told.0
   lead_told (lead.Behind core tick) told =
       let step = lead_stepped (bare k.book) k.control l v w (control.Behind core tick) was now changes told in (step.0, step.1, tt)
-  lead_told (lead.NotMade change) told = nothing 0 told.1
-  lead_told (lead.Stopped change) told = nothing 0 told.1
+  lead_told (lead.NotMade change) told = nothing told.1
+  lead_told (lead.Stopped change) told = nothing told.1
   lead_told lead.Finished told = lead_stepped (bare k.book) k.control l v w control.Finished was now changes told

@@ -13,19 +13,16 @@ use crate::book::LiveBook;
 use crate::lead::Lead;
 use crate::maker::Maker;
 use crate::member::Member;
-use crew_turns::{Patience, Player};
+use crew_turns::Player;
 use slice_table::RowOwners;
 use std::alloc::Global;
 use std::marker::Model;
-use std::thread::Threads;
 use tab_core::{CoreNo, NoMemory};
 
 /// All actors of a live run: one for each core, the controller and the planner, each with a shelf of its own.
-/// Each worker has the crew's patience.
 #[derive(Drop)]
 pub struct LiveCrew<'a> {
     pub(crate) rounds: u32,
-    pub(crate) patience: Patience,
     pub(crate) members: Vec<Player<Member<'a>>>,
     pub(crate) lead: Player<Lead<'a>>,
     pub(crate) maker: Maker,
@@ -43,12 +40,7 @@ impl<'a> LiveCrew<'a> {
     /// The actors of a run of so many rounds that has not begun, by a live book.
     ///
     /// A run of so many rounds has all events of the book. Fails only when memory runs out.
-    pub fn make<R: Threads>(
-        rt: &R,
-        alloc: Global,
-        book: &'a LiveBook,
-        rounds: u32,
-    ) -> Result<LiveCrew<'a>, NoMemory>
+    pub fn make(alloc: Global, book: &'a LiveBook, rounds: u32) -> Result<LiveCrew<'a>, NoMemory>
         requires fits { FitsRounds (bare book.now) rounds }
         ensures crew { IfOk result (IsCrewOf book.now) }
         ensures rounds { IfOk result (λ c. c.rounds ≡ rounds) }
@@ -57,12 +49,10 @@ impl<'a> LiveCrew<'a> {
     {
         let members = make_members(alloc, book, rounds)?;
         let maker = Maker::make(alloc, book)?;
-        let patience = Patience::of_workers(rt, book.outline().cores());
         let controller = Lead::make(book);
         let lead = Player::of(controller);
         Ok(LiveCrew {
             rounds,
-            patience,
             members,
             lead,
             maker,
@@ -84,7 +74,6 @@ impl<'a> LiveCrew<'a> {
     {
         let LiveCrew {
             rounds: _,
-            patience: _,
             members,
             lead: _,
             maker: _,

@@ -68,7 +68,6 @@ impl<'a> Stepper for Lead<'a> {
         self.controller.posted()
     }
 
-    // It sees no clock of the planner.
     #[inline(always)]
     fn step(&mut self, board: &RoundBoard, seat: &mut RoundSeat) -> Turn {
         match live_control_step(
@@ -79,8 +78,8 @@ impl<'a> Stepper for Lead<'a> {
             &mut self.shelf,
         ) {
             LiveControl::Posted { count: _ } => Turn::Moved,
-            LiveControl::Behind { core: _, tick } => Turn::Waits { tick },
-            LiveControl::NotMade { change: _ } => Turn::Waits { tick: 0 },
+            LiveControl::Behind { core: _, tick: _ } => Turn::Waits,
+            LiveControl::NotMade { change: _ } => Turn::Waits,
             LiveControl::Stopped { change: _ } => Turn::Stopped,
             LiveControl::Finished => Turn::Ended,
         }

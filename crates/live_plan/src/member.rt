@@ -102,7 +102,6 @@ impl<'a> Stepper for Member<'a> {
         self.actor.clock()
     }
 
-    // It sees no clock of the planner.
     #[inline(always)]
     fn step(&mut self, board: &RoundBoard, seat: &mut RoundSeat) -> Turn {
         match step_keeping(
@@ -114,8 +113,8 @@ impl<'a> Stepper for Member<'a> {
             &mut self.kept,
         ) {
             LiveAnswer::Ran(_) => Turn::Moved,
-            LiveAnswer::Behind { who: _, tick } => Turn::Waits { tick },
-            LiveAnswer::NotMade { change: _ } => Turn::Waits { tick: 0 },
+            LiveAnswer::Behind { who: _, tick: _ } => Turn::Waits,
+            LiveAnswer::NotMade { change: _ } => Turn::Waits,
             LiveAnswer::Stopped { change: _ } => Turn::Stopped,
             LiveAnswer::Finished => Turn::Ended,
         }

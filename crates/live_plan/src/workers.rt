@@ -18,11 +18,14 @@ use crate::crew::LiveCrew;
 use crate::lead::Lead;
 use crate::maker::{Maker, plan_all};
 use crate::member::Member;
-use crew_turns::{Gate, Patience, Player, Rest, Site, drive_all, work_beside};
+use crew_turns::{Gate, Player, Rest, Site, drive_all, work_beside};
 use round_words::{RoundBoard, RoundSeat};
 use std::alloc::Global;
 use std::sync::Wait;
+use std::sync::atomic::AtomicBool;
+use std::sync::atomic::Ordering::SeqCst;
 use std::thread::{Threads, join};
+use std::time::Clock;
 
 // All cores and the controller go on together until they have ended, but not where memory ran out for a change.
 fn finish<R: Wait, G: Gate>(
@@ -45,7 +48,7 @@ fn finish<R: Wait, G: Gate>(
         return;
     }
     for _ in rt.forever() {
-        match drive_all(site, seat, members, lead, Patience::long()) {
+        match drive_all(site, seat, members, lead) {
             Rest::Ended => return,
             Rest::Waits | Rest::Stopped => {}
         }
@@ -53,9 +56,10 @@ fn finish<R: Wait, G: Gate>(
     unreachable!()
 }
 
-/// The whole live run: each core's actor steps in a thread of its own, and the controller beside them, while the
-/// planner plans the changes in the thread of the call. At last all seats meet, and all but the planner go on
-/// together until they have finished, or not at all where memory ran out for a change.
+/// The whole live run: the cores and the controller go on side by side as in `core_workers::run_all`, while the planner plans the
+/// changes in the thread of the call. No waiting counts until all plans are made: a thread that waits then sleeps for 0.1 ms at a
+/// time. At last all seats meet, and all but the planner go on together until they have finished, or not at all where memory ran
+/// out for a change.
 ///
 /// The seat holds the parts of all cores and of the controller, with which the crew's actors agree, and the crew was
 /// made of the book. It may wait for the threads that it has started, and at last for what is made of a change.
@@ -63,7 +67,7 @@ fn finish<R: Wait, G: Gate>(
 /// The third part is the change for which memory ran out, if it did. Whatever the threads did, the view that comes back
 /// reads as a state that the machine's rules allow, by each course of the book. Where memory didn't run out it is
 /// complete, it keeps all promises, and each core used the counts that were decided.
-pub fn run_live<'a, R: Threads + Wait + Sync, G: Gate>(
+pub fn run_live<'a, R: Threads + Wait + Clock + Sync, G: Gate>(
     rt: &R,
     alloc: Global,
     board: &RoundBoard,
@@ -97,12 +101,13 @@ pub fn run_live<'a, R: Threads + Wait + Sync, G: Gate>(
 {
     let LiveCrew {
         rounds,
-        patience,
         members,
         lead,
         maker,
     } = crew;
     let lag = book.outline().lag();
+    let planned = AtomicBool::new(false);
+    let ready = &planned;
     let ((mut seat, mut members, mut lead), maker) = join(
         rt,
         move || -> (RoundSeat, Vec<Player<Member<'_>>>, Player<Lead<'_>>)
@@ -112,20 +117,15 @@ pub fn run_live<'a, R: Threads + Wait + Sync, G: Gate>(
                 × AreHeld live_core_kind live_lead_kind result.1.items result.2 (view_of result.0)
                 × AreSame live_core_kind live_lead_kind members.entry.items lead.entry result.1.items result.2
                 × SameActors (view_of seat) (view_of result.0) }
-        {
-            work_beside(
-                rt,
-                &Site { board, lag, gate },
-                seat,
-                members,
-                lead,
-                patience,
-            )
-        },
+        { work_beside(rt, &Site { board, lag, gate }, seat, members, lead, ready) },
         move || -> Maker
             requires { IsSync G.row × IsMakerOf book.now maker }
             ensures { IsMakerOf book.entry.now result × HasPlanned book.entry.now result.planner }
-        { plan_all(alloc, book, maker, gate) },
+        {
+            let maker = plan_all(alloc, book, maker, gate);
+            ready.store(true, SeqCst);
+            maker
+        },
     );
     let stopped = maker.stopped_at(book);
     let site = Site { board, lag, gate };
@@ -133,7 +133,6 @@ pub fn run_live<'a, R: Threads + Wait + Sync, G: Gate>(
     seat.shown();
     let crew = LiveCrew {
         rounds,
-        patience,
         members,
         lead,
         maker,

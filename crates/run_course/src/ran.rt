@@ -14,6 +14,7 @@ use run_limit::no_core_has_more_stints;
 use std::alloc::Global;
 use std::marker::Model;
 use std::thread::Threads;
+use std::time::Clock;
 use tab_words::RunMode;
 use table_form::Course;
 use trace_report::Report;
@@ -49,7 +50,7 @@ impl<'a> Ran<'a> {
 /// stints are those of that run. With a fault the board isn't started, and the seat is as it was.
 ///
 /// `TraceTooLong` comes exactly where all stints are to be kept, which may be more than `TRACE_LIMIT`.
-pub fn run_course<'a, R: Threads + Sync, G: Gate>(
+pub fn run_course<'a, R: Threads + Clock + Sync, G: Gate>(
     rt: &R,
     alloc: Global,
     course: &'a Course,
@@ -69,7 +70,7 @@ pub fn run_course<'a, R: Threads + Sync, G: Gate>(
     ensures still { IfErr result (λ r. view_of r.0 ≡ unstarted) }
     ensures cause { IfErr result (λ r. StopsRun course.now rounds mode r.1) }
 {
-    let (crew, mut report) = match ready(rt, alloc, course, rounds, mode) {
+    let (crew, mut report) = match ready(alloc, course, rounds, mode) {
         Ok(taken) => taken,
         Err(fault) => return Err((seat, fault)),
     };
@@ -83,8 +84,7 @@ pub fn run_course<'a, R: Threads + Sync, G: Gate>(
 }
 
 // All memory of a run: its actors, and room for its report.
-fn ready<'a, R: Threads>(
-    rt: &R,
+fn ready<'a>(
     alloc: Global,
     course: &'a Course,
     rounds: u32,
@@ -97,7 +97,7 @@ fn ready<'a, R: Threads>(
 {
     let keep = keep_of(course, rounds, mode)?;
     let cores = course.cores() as usize;
-    let Ok(crew) = Crew::make(rt, alloc, course, rounds, &keep[..cores]) else {
+    let Ok(crew) = Crew::make(alloc, course, rounds, &keep[..cores]) else {
         return Err(RunFault::NoMemory);
     };
     let Ok(report) = Report::room(alloc, course, rounds) else {

@@ -22,6 +22,7 @@ use std::alloc::{AllocError, Global};
 use std::marker::Model;
 use std::sync::Wait;
 use std::thread::Threads;
+use std::time::Clock;
 use tab_core::{Host, NoMemory};
 use trace_report::Report;
 
@@ -60,7 +61,7 @@ pub enum LiveFault {
 /// by the course that the script makes of the host, whatever the threads did.
 ///
 /// It may wait for the threads that it has started, and at last for what is made of a change.
-pub fn run_script<R: Threads + Wait + Sync, G: Gate>(
+pub fn run_script<R: Threads + Wait + Clock + Sync, G: Gate>(
     rt: &R,
     alloc: Global,
     host: &Host,
@@ -85,7 +86,7 @@ pub fn run_script<R: Threads + Wait + Sync, G: Gate>(
         Ok(live) => live,
         Err(fault) => return Err((seat, LiveFault::NotBegun(fault))),
     };
-    let Ok(crew) = crew_for(rt, alloc, host, script, rounds, &live) else {
+    let Ok(crew) = crew_for(alloc, host, script, rounds, &live) else {
         return Err((seat, LiveFault::NotBegun(PlanFault::NoMemory)));
     };
     let (seat, crew, stopped) = run_ready(rt, alloc, &live, crew, board, seat, gate);
@@ -99,7 +100,7 @@ pub fn run_script<R: Threads + Wait + Sync, G: Gate>(
 }
 
 // Starts the board and runs what is ready. The third part is the change for which memory ran out, if it did.
-fn run_ready<'a, R: Threads + Wait + Sync, G: Gate>(
+fn run_ready<'a, R: Threads + Wait + Clock + Sync, G: Gate>(
     rt: &R,
     alloc: Global,
     live: &'a LiveBook,
@@ -162,8 +163,7 @@ fn told(
 }
 
 // The actors of a run that has not begun, by the live book of the host and the script.
-fn crew_for<'a, R: Threads>(
-    rt: &R,
+fn crew_for<'a>(
     alloc: Global,
     host: &Host,
     script: &Script,
@@ -178,7 +178,7 @@ fn crew_for<'a, R: Threads>(
 {
     let _ = host;
     let _ = script;
-    LiveCrew::make(rt, alloc, live, rounds)
+    LiveCrew::make(alloc, live, rounds)
 }
 
 // The script's book, with the plans that the run made, what became of its changes, and room for the report of a run.

@@ -8,6 +8,7 @@ use std::alloc::Global;
 use std::process::Abort;
 use std::test::Fail;
 use std::thread::Threads;
+use std::time::Clock;
 use tab_core::ROUND;
 use tests_samples::{Case, Stumbling, bit};
 
@@ -74,7 +75,7 @@ fn bursts_are_told_as_the_stints_show(rt: HostRuntime) -> Result<(), Fail> {
 }
 
 // Runs of one host and script.
-fn try_row<R: Threads + Sync + Abort>(
+fn try_row<R: Threads + Clock + Sync + Abort>(
     rt: &R,
     alloc: Global,
     seed: u64,
@@ -97,7 +98,7 @@ fn try_row<R: Threads + Sync + Abort>(
 }
 
 // One run, whose answers are judged.
-fn try_run<R: Threads + Sync + Abort, G: Gate>(
+fn try_run<R: Threads + Clock + Sync + Abort, G: Gate>(
     rt: &R,
     alloc: Global,
     case: &Case,

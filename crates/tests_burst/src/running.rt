@@ -14,6 +14,7 @@ use script_doc::{Act, Script};
 use std::alloc::Global;
 use std::test::Fail;
 use std::thread::Threads;
+use std::time::Clock;
 use tab_core::{CoreNo, NoMemory, Stint};
 use tab_words::RunMode;
 use table_form::Course;
@@ -76,7 +77,7 @@ fn shown_of(
 }
 
 // A run of a scene, whose bursts are reported.
-pub(crate) fn run_scene<R: Threads + Sync, G: Gate>(
+pub(crate) fn run_scene<R: Threads + Clock + Sync, G: Gate>(
     rt: &R,
     alloc: Global,
     scene: &Scene,

@@ -11,6 +11,7 @@ use std::alloc::{AllocError, Global};
 use std::sync::Wait;
 use std::test::Fail;
 use std::thread::Threads;
+use std::time::Clock;
 use tab_core::{CoreNo, NoMemory};
 
 const ROWS: [Row; 6] = [
@@ -44,7 +45,7 @@ fn live_runs_follow_the_rules(rt: HostRuntime) -> Result<(), Fail> {
     Ok(())
 }
 
-fn try_row<R: Threads + Wait + Sync>(
+fn try_row<R: Threads + Wait + Clock + Sync>(
     rt: &R,
     alloc: Global,
     seed: u64,
@@ -57,7 +58,7 @@ fn try_row<R: Threads + Wait + Sync>(
 }
 
 // One run, which is judged.
-fn try_run<R: Threads + Wait + Sync>(
+fn try_run<R: Threads + Wait + Clock + Sync>(
     rt: &R,
     alloc: Global,
     scene: &Scene,
@@ -79,7 +80,7 @@ fn judge_run(scene: &Scene, crew: &LiveCrew<'_>, met: &mut Met) -> Result<(), Br
 }
 
 // A run of the scene, in which memory lasted.
-fn run_crew<'a, R: Threads + Wait + Sync>(
+fn run_crew<'a, R: Threads + Wait + Clock + Sync>(
     rt: &R,
     alloc: Global,
     scene: &'a Scene,
@@ -88,7 +89,7 @@ fn run_crew<'a, R: Threads + Wait + Sync>(
 {
     let book = &scene.live;
     let (board, mut seat) = RoundBoard::make(alloc)?;
-    let crew = LiveCrew::make(rt, alloc, book, scene.rounds)?;
+    let crew = LiveCrew::make(alloc, book, scene.rounds)?;
     let outline = book.outline();
     board.start(&mut seat, outline.lag(), outline.cores(), outline.count());
     let (_, crew, stopped) = run_live(rt, alloc, &board, seat, crew, book, &FreeGate);

@@ -10,19 +10,21 @@ use std::sync::atomic::AtomicU64;
 use std::sync::atomic::Ordering::SeqCst;
 use std::test::Fail;
 use std::thread::Threads;
+use std::time::Clock;
 use tab_core::ROUND;
 use tests_samples::spread;
 
 // The controller's number as an actor.
 const CONTROLLER: u32 = 32;
 
-// In so many looks in a row nobody else passes before the held actor goes on: some ten times as long as a worker waits.
+// In so many looks in a row nobody else passes before the held actor goes on: some 15 ms, longer than a worker waits that has
+// worked little.
 const QUIET: u32 = 200_000;
 
 // More looks than any run takes.
 const LOOKS: u32 = 1_000_000_000;
 
-// Hosts of few cores, since a worker waits for long only where each has a processor of its own. A run is longer than a
+// Hosts of few cores, since short waits are free only where each worker has a processor of its own. A run is longer than a
 // round and two lags, so that nobody has finished when the others wait.
 const LEFT: [Row; 6] = [
     (1, 3, 1000, 1000, 30, 2, 30),
@@ -96,7 +98,7 @@ fn runs_that_workers_leave_follow_the_rules(rt: HostRuntime) -> Result<(), Fail>
 }
 
 // Runs of a host and script, one for each actor that is held.
-fn leave_row<R: Threads + Sync + Abort>(
+fn leave_row<R: Threads + Clock + Sync + Abort>(
     rt: &R,
     alloc: Global,
     seed: u64,

@@ -8,6 +8,7 @@ use run_counts::CoreAccount;
 use std::alloc::Global;
 use std::test::Fail;
 use std::thread::Threads;
+use std::time::Clock;
 use tab_core::{CoreNo, NoMemory, ROUND, Stint};
 use table_form::Course;
 
@@ -46,7 +47,7 @@ fn shown_of(alloc: Global, crew: &Crew<'_>) -> Result<Shown, NoMemory> {
 }
 
 // A run of so many rounds, by threads or by turns in this one. All stints are kept, since each has a tick.
-pub(crate) fn run_course<R: Threads + Sync, G: Gate>(
+pub(crate) fn run_course<R: Threads + Clock + Sync, G: Gate>(
     rt: &R,
     alloc: Global,
     course: &Course,
@@ -58,7 +59,7 @@ pub(crate) fn run_course<R: Threads + Sync, G: Gate>(
 {
     let keep = [rounds.saturating_mul(ROUND); 32];
     let cores = course.cores();
-    let mut crew = Crew::make(rt, alloc, course, rounds, &keep[..cores as usize])?;
+    let mut crew = Crew::make(alloc, course, rounds, &keep[..cores as usize])?;
     let (board, mut seat) = RoundBoard::make(alloc)?;
     board.start(&mut seat, course.lag(), cores, course.count());
     if threads {

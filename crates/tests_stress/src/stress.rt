@@ -11,6 +11,7 @@ use std::alloc::Global;
 use std::process::Abort;
 use std::test::Fail;
 use std::thread::Threads;
+use std::time::Clock;
 use step_machine::replay;
 use tab_core::{ROUND, Stint};
 use tests_samples::{Stumbling, bit};
@@ -98,7 +99,7 @@ fn short_runs_follow_the_rules(rt: HostRuntime) -> Result<(), Fail> {
 }
 
 // Runs of one host and script, as often by threads as is wanted, and by turns in this one.
-fn try_row<R: Threads + Sync + Abort>(
+fn try_row<R: Threads + Clock + Sync + Abort>(
     rt: &R,
     alloc: Global,
     seed: u64,
@@ -118,7 +119,7 @@ fn try_row<R: Threads + Sync + Abort>(
 }
 
 // One run, which is judged by the rules and made again step by step.
-pub(crate) fn try_run<R: Threads + Sync + Abort, G: Gate>(
+pub(crate) fn try_run<R: Threads + Clock + Sync + Abort, G: Gate>(
     rt: &R,
     alloc: Global,
     scene: &Scene,

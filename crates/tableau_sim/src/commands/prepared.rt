@@ -33,6 +33,7 @@ use run_limit::stint_bound;
 use script_doc::Script;
 use std::alloc::Global;
 use std::thread::Threads;
+use std::time::Clock;
 use tab_core::{Host, NoMemory};
 use tab_io::{Sink, WriteFault};
 use tab_words::RunMode;
@@ -81,7 +82,7 @@ pub(crate) fn prepare(
 }
 
 // The reply of a run that was prepared, on a board that isn't started.
-pub(crate) fn run_prepared<'a, R: Threads + Sync, G: Gate>(
+pub(crate) fn run_prepared<'a, R: Threads + Clock + Sync, G: Gate>(
     stage: &Stage<'_, R, G>,
     rounds: u32,
     mode: RunMode,

@@ -26,6 +26,7 @@ use script_doc::Script;
 use std::alloc::Global;
 use std::sync::Wait;
 use std::thread::Threads;
+use std::time::Clock;
 use tab_core::Host;
 use tab_io::{Sink, Source};
 use tab_words::RunMode;
@@ -38,7 +39,7 @@ pub(crate) enum Ready {
 }
 
 // Answers `run`: reads its input, runs the host's cores on a board that isn't started, and writes the text.
-pub(crate) fn run<R: Threads + Wait + Sync, S: Source, K: Sink, G: Gate>(
+pub(crate) fn run<R: Threads + Wait + Clock + Sync, S: Source, K: Sink, G: Gate>(
     stage: &Stage<'_, R, G>,
     rounds: u32,
     mode: RunMode,

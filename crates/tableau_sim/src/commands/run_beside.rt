@@ -19,10 +19,11 @@ use run_live::run_script;
 use script_doc::Script;
 use std::sync::Wait;
 use std::thread::Threads;
+use std::time::Clock;
 use tab_core::Host;
 
 // The reply of `run` with `live` to a host and a script, whose changes are planned beside the cores.
-pub(crate) fn run_beside<R: Threads + Wait + Sync, G: Gate>(
+pub(crate) fn run_beside<R: Threads + Wait + Clock + Sync, G: Gate>(
     stage: &Stage<'_, R, G>,
     rounds: u32,
     host: Host,

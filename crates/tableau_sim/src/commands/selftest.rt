@@ -23,12 +23,13 @@ use round_words::RoundSeat;
 use script_doc::Script;
 use std::alloc::{AllocError, Global};
 use std::thread::Threads;
+use std::time::Clock;
 use tab_core::NoMemory;
 use tab_io::{Sink, WriteFault};
 use tab_words::{RunMode, TextPiece, put_pieces};
 
 // Answers `selftest`: runs the cores of the seed's host on a board that isn't started, and writes the text.
-pub(crate) fn selftest<R: Threads + Sync, K: Sink, G: Gate>(
+pub(crate) fn selftest<R: Threads + Clock + Sync, K: Sink, G: Gate>(
     stage: &Stage<'_, R, G>,
     seed: u64,
     output: &mut K,

@@ -5,6 +5,7 @@ use std::alloc::Global;
 use std::sync::Wait;
 use std::test::Fail;
 use std::thread::Threads;
+use std::time::Clock;
 
 const NO_VCPUS: &str = "plan cores 1 vcpus 0\ncore 0\n102600 -\nend\n";
 
@@ -114,7 +115,7 @@ const READS: [Row<'static>; 4] = [
 const READ_FAULT: Outcome<'static> = (4, b"refused: read fault\n", false);
 
 // Whether the call ends so if its first or its second read fails, and as the row says if neither does.
-fn ends_by_reads<R: Threads + Wait + Sync>(
+fn ends_by_reads<R: Threads + Wait + Clock + Sync>(
     rt: &R,
     alloc: Global,
     row: &Row<'_>,
@@ -150,7 +151,7 @@ const ROOMS: [Row<'static>; 6] = [
 
 // Whether the text is cut where the room ends, for every room up to its length. Where there is room for all, the call
 // ends with the row's status; its board is started as the row says.
-fn ends_by_room<R: Threads + Wait + Sync>(
+fn ends_by_room<R: Threads + Wait + Clock + Sync>(
     rt: &R,
     alloc: Global,
     row: &Row<'_>,

@@ -7,6 +7,7 @@ use std::sync::atomic::AtomicU64;
 use std::sync::atomic::Ordering::SeqCst;
 use std::test::Fail;
 use std::thread::{Threads, yield_now};
+use std::time::Clock;
 
 // One vCPU of half a core, with stints as long as a round, and a change at the end of the first round.
 const SWITCH: &str = "cores = 1
@@ -173,7 +174,7 @@ done
 ];
 
 // Whether the call with a held actor has the row's text, and no actor was held for too long.
-fn is_held_so<R: Threads + Wait + Sync>(
+fn is_held_so<R: Threads + Wait + Clock + Sync>(
     rt: &R,
     alloc: Global,
     row: &HeldRow<'_>,
@@ -204,8 +205,8 @@ fn held_actors(rt: HostRuntime) -> Result<(), Fail> {
 struct Together {
     cores: u32,
     steps: u64,
-    // how many steps each core has come to
-    came: [AtomicU64; 8],
+    // how often a core has come to one of these steps: nobody comes to a step before all have come to the one before
+    came: AtomicU64,
     late: AtomicU64,
 }
 
@@ -214,39 +215,21 @@ impl Together {
         Together {
             cores,
             steps,
-            came: [
-                AtomicU64::new(0),
-                AtomicU64::new(0),
-                AtomicU64::new(0),
-                AtomicU64::new(0),
-                AtomicU64::new(0),
-                AtomicU64::new(0),
-                AtomicU64::new(0),
-                AtomicU64::new(0),
-            ],
+            came: AtomicU64::new(0),
             late: AtomicU64::new(0),
         }
-    }
-
-    // Whether each core has come to this step.
-    fn have_come(&self, step: u64) -> bool {
-        for core in 0..8u32 {
-            if core < self.cores && self.came[core as usize].load(SeqCst) <= step {
-                return false;
-            }
-        }
-        true
     }
 }
 
 impl Gate for Together {
     fn pass(&self, actor: u32, step: u64) {
-        if actor >= self.cores || actor >= 8 || step >= self.steps {
+        if actor >= self.cores || step >= self.steps {
             return;
         }
-        self.came[actor as usize].store(step.saturating_add(1), SeqCst);
+        self.came.fetch_add(1, SeqCst);
+        let all = u64::from(self.cores).saturating_mul(step.saturating_add(1));
         for _ in 0..1_000_000u32 {
-            if self.have_come(step) {
+            if self.came.load(SeqCst) >= all {
                 return;
             }
             yield_now();
@@ -258,7 +241,7 @@ impl Gate for Together {
 // Words, a host without a script, the cores that are held and at how many steps, and the text.
 type TogetherRow<'a> = (&'a str, &'a str, (u32, u64), &'a str);
 
-const TOGETHER: [TogetherRow<'static>; 4] = [
+const TOGETHER: [TogetherRow<'static>; 6] = [
     (
         "run 3",
         SPLIT,
@@ -314,10 +297,63 @@ core 2 slots 0 shared 0 idle 615600
 done
 ",
     ),
+    (
+        "run 1",
+        "cores = 32\n",
+        (32, 1),
+        "run 1 rounds 32 cores 0 events
+round 0 plan 0
+core 0 slots 0 shared 0 idle 102600
+core 1 slots 0 shared 0 idle 102600
+core 2 slots 0 shared 0 idle 102600
+core 3 slots 0 shared 0 idle 102600
+core 4 slots 0 shared 0 idle 102600
+core 5 slots 0 shared 0 idle 102600
+core 6 slots 0 shared 0 idle 102600
+core 7 slots 0 shared 0 idle 102600
+core 8 slots 0 shared 0 idle 102600
+core 9 slots 0 shared 0 idle 102600
+core 10 slots 0 shared 0 idle 102600
+core 11 slots 0 shared 0 idle 102600
+core 12 slots 0 shared 0 idle 102600
+core 13 slots 0 shared 0 idle 102600
+core 14 slots 0 shared 0 idle 102600
+core 15 slots 0 shared 0 idle 102600
+core 16 slots 0 shared 0 idle 102600
+core 17 slots 0 shared 0 idle 102600
+core 18 slots 0 shared 0 idle 102600
+core 19 slots 0 shared 0 idle 102600
+core 20 slots 0 shared 0 idle 102600
+core 21 slots 0 shared 0 idle 102600
+core 22 slots 0 shared 0 idle 102600
+core 23 slots 0 shared 0 idle 102600
+core 24 slots 0 shared 0 idle 102600
+core 25 slots 0 shared 0 idle 102600
+core 26 slots 0 shared 0 idle 102600
+core 27 slots 0 shared 0 idle 102600
+core 28 slots 0 shared 0 idle 102600
+core 29 slots 0 shared 0 idle 102600
+core 30 slots 0 shared 0 idle 102600
+core 31 slots 0 shared 0 idle 102600
+done
+",
+    ),
+    (
+        "run 2 live",
+        "cores = 3\nlag = 10260\nquantum = 10260\n",
+        (3, 20),
+        "run 2 rounds 3 cores 0 events
+round 0 plan 0
+core 0 slots 0 shared 0 idle 205200
+core 1 slots 0 shared 0 idle 205200
+core 2 slots 0 shared 0 idle 205200
+done
+",
+    ),
 ];
 
 // Whether the call passes the gate and has the row's text.
-fn is_passed<R: Threads + Wait + Sync>(
+fn is_passed<R: Threads + Wait + Clock + Sync>(
     rt: &R,
     alloc: Global,
     row: &TogetherRow<'_>,
@@ -337,6 +373,55 @@ fn workers_step_beside_each_other(rt: HostRuntime) -> Result<(), Fail> {
     for row in &TOGETHER {
         assert!(rt; is_passed(&rt, rt.alloc(), row)?, "{}", row.1);
     }
+    Ok(())
+}
+
+// Holds core 0 at its sixth step until core 1 has made a thousand steps in a row without getting on, for a million turns at most.
+#[derive(Drop)]
+struct Lasting {
+    place: AtomicU64,
+    vain: AtomicU64,
+    late: AtomicU64,
+}
+
+impl Gate for Lasting {
+    fn pass(&self, actor: u32, step: u64) {
+        if actor != 0 || step != 5 {
+            return;
+        }
+        for _ in 0..1_000_000u32 {
+            if self.vain.load(SeqCst) >= 1_000 {
+                return;
+            }
+            yield_now();
+        }
+        self.late.store(1, SeqCst);
+    }
+
+    fn reached(&self, actor: u32, _step: u64, place: u32) {
+        if actor != 1 {
+            return;
+        }
+        if self.place.swap(u64::from(place), SeqCst) == u64::from(place) {
+            self.vain.fetch_add(1, SeqCst);
+        } else {
+            self.vain.store(0, SeqCst);
+        }
+    }
+}
+
+// A worker that gave its core back before would leave core 0 held to the last of its turns.
+#[test]
+fn a_worker_outlasts_a_thousand_turns(rt: HostRuntime) -> Result<(), Fail> {
+    let gate = Lasting {
+        place: AtomicU64::new(0),
+        vain: AtomicU64::new(0),
+        late: AtomicU64::new(0),
+    };
+    let row = &HELD[5];
+    let called = call_with(&rt, rt.alloc(), row.0, row.1, &[], ROOM, &gate)?;
+    assert!(rt; comes_to(&called, &(0, row.3.as_bytes(), true)));
+    assert_eq!(rt; gate.late.load(SeqCst), 0);
     Ok(())
 }
 

@@ -11,6 +11,7 @@ use std::alloc::Global;
 use std::sync::Wait;
 use std::test::Fail;
 use std::thread::Threads;
+use std::time::Clock;
 use step_machine::World;
 use tab_core::NoMemory;
 use table_form::Course;
@@ -75,7 +76,7 @@ fn input_of(
 
 // Whether a replay of the run to its end is done, has a line for each step that has one, and ends
 // with this line.
-fn ends_whole<R: Threads + Wait + Sync>(
+fn ends_whole<R: Threads + Wait + Clock + Sync>(
     rt: &R,
     alloc: Global,
     host: &str,

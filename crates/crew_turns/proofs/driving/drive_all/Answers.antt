@@ -20,8 +20,8 @@ driving-preserved-in-Moved g c =
       same = same_twice g.C.Stepper.kind g.L.Stepper.kind g.C.Stepper.lawful g.L.Stepper.lawful c.args.cores.now c.driving.cores c.turn.new.cores c.args.lead.now c.driving.lead c.turn.new.lead i.same e.same;
       actors = actors_twice v u w i.actors e.actors;
       parts = parts_more v u w i.parts e.parts;
-      few = c.turns-left-in-Moved.ensures.few;
-      rests = inl c.turns-left-in-Moved.ensures.some;
+      few = omega arith;
+      rests = inl (omega arith);
     }
 
 pub driving-preserved : goal.driving-preserved

@@ -34,10 +34,10 @@ finish-requires-clause-agreed g c κs within =
     (held_agreed j.1.items j.2 (view_of j.0) c.join-seat.ensures.first.1)
 
 -- the crew that comes back
-abbrev crew_after : (g : Over) → goal.After-shown g → LiveCrewView
+abbrev crew_after : (g : Over) → goal.After-drop-planned g → LiveCrewView
 crew_after g c = live_crew_view c.crew.inside.rounds (with_items c.join-seat.result.0.1 c.finish.new.members).items c.finish.new.lead c.join-seat.result.1
 
-back : (g : Over) (c : goal.After-shown g) → ComesBack c.args.book.now (crew_after g c) (view_of c.finish.new.seat) c.stopped_at-stopped.result
+back : (g : Over) (c : goal.After-drop-planned g) → ComesBack c.args.book.now (crew_after g c) (view_of c.finish.new.seat) c.stopped_at-stopped.result
 back g c =
     let b = c.args.book.now in
     let t = c.crew.inside in

@@ -5,7 +5,7 @@ use Rattle.run_course.specs.Inside.Keeping.{IsRoomFor}
 use Rattle.run_course.proofs.ran.ready.Goals as goal
 
 pub returns-clause-ready : goal.returns-clause-ready
-returns-clause-ready g c = (
+returns-clause-ready c = (
   record {
     course_is = c.in-Ok.ensures.same.0;
     rounds_are = c.in-Ok.ensures.same.1;

@@ -1,5 +1,5 @@
-use Rattle.core_workers.specs.Numbers.{NamesFrom}
-use Rattle.core_workers.proofs.mask.mask_from.Given as goal
+use Rattle.crew_turns.specs.Numbers.{NamesFrom}
+use Rattle.crew_turns.proofs.mask.mask_from.Given as goal
 
 abbrev pub invariant-loop-at : goal.invariant-loop-at
 invariant-loop-at l = record {

@@ -1,6 +1,6 @@
 use Rattle.std.proofs.Common.{◌+◌, refl, arith}
-use Rattle.core_workers.proofs.MaskLemmas.{named_more, named_none}
-use Rattle.core_workers.proofs.mask.mask_from.Goals as goal
+use Rattle.crew_turns.proofs.MaskLemmas.{named_more, named_none}
+use Rattle.crew_turns.proofs.mask.mask_from.Goals as goal
 
 pub loop-at-init : goal.loop-at-init
 loop-at-init c = record { named = named_none c.args.first }

@@ -5,7 +5,7 @@ use Rattle.std.proofs.lemmas.Nat.Bits.{bit_at-zero, bit_at_set_same, bit_at_set_
 use mathlib.Core.Logic.{dite}
 use native.Mathlib.Decide.{ℕ_discrete}
 use Rattle.round_words.specs.Views.{names}
-use Rattle.core_workers.specs.Numbers.{NamesFrom}
+use Rattle.crew_turns.specs.Numbers.{NamesFrom}
 
 -- of no actor, and of one more
 pub named_none : (first : ℕ) → NamesFrom first 0 0

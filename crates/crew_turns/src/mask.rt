@@ -1,8 +1,8 @@
 ghost use Rattle.std.specs.Prelude.{◌+◌, ◌≤◌};
-ghost use Rattle.core_workers.specs.Numbers.{NamesFrom};
+ghost use Rattle.crew_turns.specs.Numbers.{NamesFrom};
 
-/// The actors whose bits are set are so many neighbours, from the first one on.
-pub fn mask_from(first: u32, count: u32) -> u64
+// The mask of so many neighbouring actors, from the first one on.
+pub(crate) fn mask_from(first: u32, count: u32) -> u64
     requires small { first + count ≤ 32 }
     ensures { NamesFrom first count result }
 {
