@@ -1,6 +1,6 @@
 //! The program `tableau`: it answers its words by one call, over standard input and output, and
 //! tells on standard error what it reads from a terminal, and what to do about a refusal. Where the pipe that it
-//! writes to was closed, it tells nothing.
+//! writes to was closed, it tells nothing. After a run a terminal also sees whose threads made it.
 #![tactic(auto)]
 
 mod progress;
@@ -55,6 +55,9 @@ fn main(rt: HostRuntime) -> ExitCode {
         &gate,
     );
     gate.clear();
+    if matches!(done.status, Status::Ok) {
+        gate.tell_threads();
+    }
     let is_over = matches!(done.status, Status::WriteFault) && is_closed_pipe(&mut io::writer(&rt));
     if !is_over {
         tell(&rt.stderr(), rt.alloc(), words, input.kept(), &done);

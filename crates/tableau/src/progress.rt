@@ -1,7 +1,7 @@
-//! How far a long run is.
+//! How far a long run is, and at its end who made it.
 use core_workers::Gate;
-use std::sync::atomic::AtomicU64;
 use std::sync::atomic::Ordering::SeqCst;
+use std::sync::atomic::{AtomicU32, AtomicU64};
 use std::time::{Clock, Instant};
 use tab_core::{MAX_CORES, ROUND};
 use tab_io::{Put, Sink};
@@ -13,11 +13,32 @@ const STRIDE: u64 = 4096;
 // The least time between two tellings, and before the first, in milliseconds.
 const PAUSE: u64 = 1000;
 
+// The rounds of a self test.
+const TEST_ROUNDS: u32 = 4;
+
 // What covers the line, which is shorter, and begins it again.
 const CLEARED: &[u8] = b"\r                                                  \r";
 
+// Some threads' part of a run: how many they are, 0 where the run has no such phase, and how far all cores are together at its end,
+// in ticks. The last phase ends with the run.
+#[derive(Drop)]
+struct Phase {
+    threads: AtomicU32,
+    end: AtomicU64,
+}
+
+impl Phase {
+    // A phase that hasn't begun.
+    fn none() -> Phase {
+        Phase {
+            threads: AtomicU32::new(0),
+            end: AtomicU64::new(u64::MAX),
+        }
+    }
+}
+
 /// A gate that lets everybody pass, and writes the furthest round in which it saw a core, once a second at most and on
-/// one line.
+/// one line. At the end of the run it writes whose threads made which part of it.
 #[derive(Drop)]
 pub(crate) struct ProgressGate<C: Clock, P: Print> {
     clock: C,
@@ -30,6 +51,8 @@ pub(crate) struct ProgressGate<C: Clock, P: Print> {
     latest: AtomicU64,
     // The milliseconds from the begin to the last telling, 0 where there is none.
     told: AtomicU64,
+    // Of 32 cores there are seven at most, the last of one thread.
+    phases: [Phase; 8],
 }
 
 impl<C: Clock, P: Print> ProgressGate<C, P> {
@@ -48,6 +71,16 @@ impl<C: Clock, P: Print> ProgressGate<C, P> {
             rounds,
             latest: AtomicU64::new(0),
             told: AtomicU64::new(0),
+            phases: [
+                Phase::none(),
+                Phase::none(),
+                Phase::none(),
+                Phase::none(),
+                Phase::none(),
+                Phase::none(),
+                Phase::none(),
+                Phase::none(),
+            ],
         }
     }
 
@@ -56,6 +89,54 @@ impl<C: Clock, P: Print> ProgressGate<C, P> {
         if self.told.swap(0, SeqCst) != 0 {
             // (a line that can't be cleared stays)
             let _ = self.output.write_all(CLEARED);
+        }
+    }
+
+    /// Writes whose threads made a run that has ended, on a line of its own, or nothing where no run began.
+    pub(crate) fn tell_threads(&self) {
+        let workers = self.phases[0].threads.load(SeqCst).saturating_sub(1);
+        if self.begin.is_none() || workers == 0 {
+            return;
+        }
+        let whole = u64::from(workers)
+            .saturating_mul(u64::from(self.rounds))
+            .saturating_mul(u64::from(ROUND));
+        // (what can't be written is left out)
+        let _ = if self.phases[0].end.load(SeqCst) < whole {
+            self.tell_phases(whole);
+            self.output.write_all(b"\n")
+        } else if workers == 1 {
+            self.output.write_all(b"tableau: 1 worker, of the one core, went on to the end\n")
+        } else {
+            self.output.print(format_args!(
+                "tableau: {workers} workers, one for each core, went on to the end\n"
+            ))
+        };
+    }
+
+    // Writes how many percent of all ticks each phase made, where it made one. No worker is in the controller's thread.
+    fn tell_phases(&self, whole: u64) {
+        let (mut who, mut others) = ("worker", 1u32);
+        let mut done = 0u64;
+        for phase in &self.phases {
+            let threads = phase.threads.load(SeqCst);
+            let end = phase.end.load(SeqCst).min(whole);
+            let upto = end.saturating_mul(100) / whole.max(1);
+            if threads > 0 && upto > done {
+                let count = threads.saturating_sub(others);
+                let many = if count == 1 { "" } else { "s" };
+                let percent = upto - done;
+                let _ = if done == 0 {
+                    self.output.print(format_args!(
+                        "tableau: {count} {who}{many} did {percent} % of the run"
+                    ))
+                } else {
+                    self.output
+                        .print(format_args!(", then {count} {who}{many} {percent} %"))
+                };
+            }
+            done = upto;
+            (who, others) = ("thread", 0);
         }
     }
 
@@ -113,12 +194,24 @@ impl<C: Clock + Sync, P: Print + Sync> Gate for ProgressGate<C, P> {
             self.look(actor, place);
         }
     }
+
+    fn dealt(&self, threads: u32, ticks: u64) {
+        for phase in &self.phases {
+            if phase.threads.load(SeqCst) == 0 {
+                phase.threads.store(threads, SeqCst);
+                return;
+            }
+            // (an earlier phase had ended with fewer)
+            phase.end.fetch_min(ticks, SeqCst);
+        }
+    }
 }
 
-// How many rounds `run` has by these words, or 0 for other words: a self test is over at once.
+// How many rounds a run by these words has, or 0 where they make none.
 fn rounds_of(words: &[String]) -> u32 {
     match read_words(words) {
         Ok(Command::Run { rounds, mode: _ }) => rounds,
+        Ok(Command::Selftest { seed: _ }) => TEST_ROUNDS,
         _ => 0,
     }
 }
