@@ -1,4 +1,5 @@
 pub mod Counting
+pub mod Exact
 pub mod MarkedWords
 pub mod Marking
 pub mod Meets

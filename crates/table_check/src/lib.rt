@@ -6,6 +6,7 @@
 //! are good as they come, and keeps none of them.
 #![tactic(auto)]
 
+mod caps;
 mod checker;
 mod clash;
 mod counters;
@@ -18,6 +19,7 @@ mod row_checks;
 mod shape;
 mod shortage;
 
+pub use caps::serve_exactly;
 pub use checker::{check, first_fault};
 pub use fault::CheckFault;
 pub use refusal::put_check_fault;

@@ -47,6 +47,10 @@ IsFirstLow counters v task (Some k) =
     (k < ROUND / task.period) × (count_at counters v k < task.cost) ×
     ((j : ℕ) → j < k → task.cost ≤ count_at counters v j)
 
+-- each counter of the vCPU's periods is its cost
+abbrev pub HasItsCosts : List ℕ → ℕ → Periodic → Type 0
+HasItsCosts counters v task = (k : ℕ) → k < ROUND / task.period → count_at counters v k ≡ task.cost
+
 -- a counter for each period of each of few vCPUs, none above what so many rows can give
 pub record CountersHaveRoom (tasks : List (Option Periodic)) (count : ℕ) (counters : List ℕ) : Type 0 where
   pub few : length tasks ≤ MAX_VCPUS
