@@ -60,7 +60,7 @@ use Rattle.tableau_sim.specs.Outcomes.CallOutcome.{Refuses, Writes}
 use Rattle.tableau_sim.specs.Gen.{Gens}
 use Rattle.tableau_sim.specs.Hosts.{OfHost}
 use Rattle.tableau_sim.specs.Plan.{HasNoPlan, Plans, PlansFrom}
-use Rattle.tableau_sim.specs.PlanStay.{PlansStaying}
+use Rattle.tableau_sim.specs.PlanStay.{PlansAnew, PlansStaying}
 use Rattle.tableau_sim.specs.PlanWhole.{PlansWhole}
 use Rattle.tableau_sim.specs.Replay.{Replays, ReplaysSteps}
 use Rattle.tableau_sim.specs.Scripts.{OfScript, script_section}
@@ -117,19 +117,28 @@ one_old s h = record {
   apart = λ line homes bad old. no_text IsSomeOldText 1 _ line bad (old.vcpus, old.text);
 }
 
--- `plan stay` makes one outcome of a host
-stay_one : (s : List (List ℕ)) (h : Host) (a b : CallOutcome) → PlansStaying h s a → PlansStaying h s b → a ≡ b
-stay_one s h a b (PlansStaying.Stays homes _ old p) (PlansStaying.Stays others _ also q) =
+-- one outcome is made anew of a host
+anew_one : (s : List (List ℕ)) (h : Host) (a b : CallOutcome) → PlansAnew h s a → PlansAnew h s b → a ≡ b
+anew_one s h a b (PlansAnew.Stays homes _ old p) (PlansAnew.Stays others _ also q) =
     one_from homes h a b p (subst (λ o. PlansFrom o h b) ((one_old s h).thing others homes also old) q)
-stay_one s h a b (PlansStaying.Stays homes _ old p) (PlansStaying.BadLine line bad) =
+anew_one s h a b (PlansAnew.Stays homes _ old p) (PlansAnew.BadLine line bad) =
     absurd ((one_old s h).apart line homes bad old)
-stay_one s h a b (PlansStaying.BadLine line bad) (PlansStaying.Stays homes _ old p) =
+anew_one s h a b (PlansAnew.BadLine line bad) (PlansAnew.Stays homes _ old p) =
     absurd ((one_old s h).apart line homes bad old)
-stay_one s h a b (PlansStaying.BadLine line bad) (PlansStaying.BadLine other also) =
+anew_one s h a b (PlansAnew.BadLine line bad) (PlansAnew.BadLine other also) =
     ap (λ l. Refuses (status.BadPlanLine l) []) ((one_old s h).cause line other bad also)
 
+-- `plan stay` makes one outcome of a host
+stay_one : (s : List (List ℕ)) (h : Host) (a b : CallOutcome) → PlansStaying h s a → PlansStaying h s b → a ≡ b
+stay_one s h a b (PlansStaying.Unchanged plan has) (PlansStaying.Unchanged other also) = refl
+stay_one s h a b (PlansStaying.Unchanged plan has) (PlansStaying.Changed _ none made) =
+    absurd (none plan has.planned)
+stay_one s h a b (PlansStaying.Changed _ none made) (PlansStaying.Unchanged plan has) =
+    absurd (none plan has.planned)
+stay_one s h a b (PlansStaying.Changed _ none p) (PlansStaying.Changed _ also q) = anew_one s h a b p q
+
 -- `plan stay` makes one outcome of its sections
-stay_only : (s : List (List ℕ)) (a b : CallOutcome) → OfHost PlansStaying s a → OfHost PlansStaying s b → a ≡ b
+pub stay_only : (s : List (List ℕ)) (a b : CallOutcome) → OfHost PlansStaying s a → OfHost PlansStaying s b → a ≡ b
 stay_only s a b = one_of_host PlansStaying s a b (λ h is. stay_one s h a b)
 
 -- ---- check

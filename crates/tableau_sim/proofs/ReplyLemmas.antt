@@ -32,6 +32,7 @@ use Rattle.tableau_sim.specs.Outcomes.{CallOutcome, status_of}
 use Rattle.tableau_sim.specs.Outcomes.CallOutcome.{Refuses}
 use Rattle.tableau_sim.specs.Hosts.{OfHost}
 use Rattle.tableau_sim.specs.Hosts.OfHost.{Hosted}
+use Rattle.tableau_sim.specs.PlanStay.{IsTextOfNone, PlansAnew, PlansStaying}
 use Rattle.tableau_sim.specs.Scripts.{HasScript, OfScript}
 use Rattle.tableau_sim.specs.Scripts.OfScript.{Scripted}
 use Rattle.script_doc.specs.Statements.{statements_of}
@@ -279,6 +280,14 @@ pub made_of_host : (Q : Host → List (List ℕ) → CallOutcome → Type 0) (se
     → Makes (OfHost Q sections) (host_section sections) reply
 made_of_host Q sections host reply is = makes_as (Q host sections) (OfHost Q sections) (host_section sections) reply
     (λ outcome made. Hosted host outcome is made)
+
+-- what is made anew, where the second section is the text of no plan of the host, is made of the sections
+pub made_of_changed : (sections : List (List ℕ)) (host : Host) (reply : Result Text Stop)
+    → IsHostText (host_section sections) host → IsTextOfNone sections host
+    → Makes (PlansAnew host sections) (host_section sections) reply
+    → Makes (OfHost PlansStaying sections) (host_section sections) reply
+made_of_changed sections host reply is none = makes_as (PlansAnew host sections) (OfHost PlansStaying sections)
+    (host_section sections) reply (λ outcome made. Hosted host outcome is (PlansStaying.Changed outcome none made))
 
 -- what is made of the host and the script of the first two sections is made of the sections
 pub made_of_script : (rounds : ℕ) (Q : Host → List Event → List (List ℕ) → CallOutcome → Type 0)

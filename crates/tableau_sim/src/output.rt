@@ -75,6 +75,7 @@ fn put_text<K: Sink>(output: &mut K, text: &Text<'_>) -> Result<(), WriteFault>
         Text::Help => write_all(output, HELP.as_bytes()),
         Text::Version => write_all(output, VERSION.as_bytes()),
         Text::Plan { host, plan } => write_plan(output, host, plan),
+        Text::Same { text } => write_all(output, text),
         Text::Checked => write_all(output, b"ok\n"),
         Text::Generated { host } => write_host(output, host),
         Text::Replay { host, book, trace } => write_replay(output, host, book.course(), trace),

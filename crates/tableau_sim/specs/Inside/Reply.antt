@@ -45,6 +45,7 @@ abbrev pub bytes_of : Text → List ℕ
 bytes_of written.Help = HELP.now
 bytes_of written.Version = VERSION.now
 bytes_of (written.Plan host plan) = plan_text (names_of host.vcpus) (plan_view plan)
+bytes_of (written.Same text) = text.items
 bytes_of written.Checked = codes "ok\n"
 bytes_of (written.Generated host) = host_text host
 bytes_of (written.Replay host book trace) =
