@@ -18,6 +18,7 @@ mod player;
 mod running;
 mod stepper;
 mod turning;
+mod widths;
 mod working;
 
 pub use beside::work_beside;
