@@ -7,7 +7,7 @@ use std::time::Duration;
 // besides that of one thread, which loses nothing.
 const TRIAL: u64 = 10_000;
 
-// So often at most the time of a phase is doubled: to 10 seconds.
+// The time of a phase is doubled so often at most: to 10 seconds.
 const DOUBLINGS: u32 = 10;
 
 /// The numbers of threads that may make a phase, and how fast each was when it was last tried.

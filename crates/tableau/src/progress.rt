@@ -130,15 +130,16 @@ impl<C: Clock, P: Print> ProgressGate<C, P> {
     // Writes how many percent of all ticks each part has, where it has one. No worker is in the controller's thread.
     fn tell_parts(&self, whole: u64) {
         let (mut who, mut others) = ("worker", 1u32);
-        let mut begun = false;
+        let (mut ticks, mut told) = (0u64, 0u64);
         for part in &self.parts {
             let threads = part.threads.load(SeqCst);
-            let ticks = part.ticks.load(SeqCst);
-            let percent = ticks.saturating_mul(100).saturating_add(whole / 2) / whole.max(1);
-            if threads > 0 && percent > 0 {
+            ticks = ticks.saturating_add(part.ticks.load(SeqCst)).min(whole);
+            let upto = ticks.saturating_mul(100) / whole.max(1);
+            if threads > 0 && upto > told {
+                let percent = upto - told;
                 let count = threads.saturating_sub(others);
                 let many = if count == 1 { "" } else { "s" };
-                let _ = if begun {
+                let _ = if told > 0 {
                     self.output
                         .print(format_args!(", {count} {who}{many} {percent} %"))
                 } else {
@@ -146,7 +147,7 @@ impl<C: Clock, P: Print> ProgressGate<C, P> {
                         "tableau: {count} {who}{many} did {percent} % of the run"
                     ))
                 };
-                begun = true;
+                told = upto;
             }
             (who, others) = ("thread", 0);
         }
