@@ -7,18 +7,14 @@ use std::time::{Clock, Duration, Instant};
 /// How many turns in a row in which nobody gets on end `drive_all`, and a worker's thread too at the latest.
 pub const PATIENCE: u32 = 10_000_000;
 
-// In how many turns of a wait a thread doesn't ask the clock: some 0.1 ms. It spins, and lets others have its processor after some
-// turns and twice, four times and eight times as many, since they may include the one that it waits for. A yield takes half a
-// microsecond on an idle machine, and a time slice of some 4 ms on a busy one.
+// In how many turns of a wait a thread spins and doesn't ask the clock: some 50 us. They don't count, since a shorter wait is the
+// price of being side by side. In each turn after them it asks the clock, and lets others have its processor, since they may
+// include the thread that it waits for. A yield takes half a microsecond on an idle machine, and a time slice of some 4 ms on a
+// busy one.
 const SPINS: u32 = 1_024;
-
-const FEW_SPINS: u32 = 64;
 
 // A thread that gets on asks the clock once in so many turns, which takes some 50 ns.
 const STRIDE: u32 = 16;
-
-// Of each wait so many microseconds don't count: a shorter one is the price of being side by side.
-const SHORT: u64 = 20;
 
 // For how many microseconds a thread sleeps where it waits for plans that are still being made.
 const NAP: u64 = 100;
@@ -35,7 +31,7 @@ pub(crate) struct Patience<'a, K: Clock> {
     // When the time began that counts, and how long the waits since then were.
     begun: Option<Instant>,
     waited: Duration,
-    // When the present wait began to count.
+    // When the present wait began to count, if it does.
     since: Option<Instant>,
     // Whether all threads were seen to have come.
     sees_all: bool,
@@ -101,12 +97,10 @@ impl<'a, K: Clock> Patience<'a, K> {
 
     // How long its waits were, with the present one until now.
     fn waited_until(&self, now: Instant) -> Duration {
-        let Some(since) = self.since else {
-            return self.waited;
-        };
-        let wait = now.duration_since(since);
-        self.waited
-            .saturating_add(wait.saturating_sub(Duration::from_micros(SHORT)))
+        match self.since {
+            Some(since) => self.waited.saturating_add(now.duration_since(since)),
+            None => self.waited,
+        }
     }
 
     // Waits for a moment, if the thread is to go on.
@@ -116,7 +110,7 @@ impl<'a, K: Clock> Patience<'a, K> {
             return false;
         }
         if self.vain < SPINS {
-            self.spin();
+            spin_loop();
             return true;
         }
         if self.vain >= PATIENCE {
@@ -132,18 +126,6 @@ impl<'a, K: Clock> Patience<'a, K> {
             sleep(self.clock, Duration::from_micros(NAP));
         }
         true
-    }
-
-    // Spins for a moment, or lets others have the processor.
-    fn spin(&mut self) {
-        if self.vain < FEW_SPINS || !self.vain.is_power_of_two() {
-            spin_loop();
-            return;
-        }
-        if self.since.is_none() {
-            self.since = Instant::now(self.clock).ok();
-        }
-        yield_now();
     }
 
     // Whether the phase allows the thread to go on, by the clock. If not, the phase is over.
@@ -163,6 +145,9 @@ impl<'a, K: Clock> Patience<'a, K> {
         if !self.sees_all && self.phase.has_all() {
             self.sees_all = true;
             self.begin(now);
+        }
+        if self.vain > 0 && self.since.is_none() {
+            self.since = Some(now);
         }
         let spent = now.duration_since(self.begun.unwrap_or(now));
         let goes_on = self.phase.allows(spent, self.waited_until(now));

@@ -2,9 +2,14 @@ use std::sync::atomic::Ordering::SeqCst;
 use std::sync::atomic::{AtomicBool, AtomicU32};
 use std::time::Duration;
 
-// A core's own worker with a processor of its own may wait for this part of its work: there a long wait is one for a thread that
-// another program keeps from its processor.
+// A core's own worker with a processor of its own may wait for this part of its work, and for so many microseconds whatever its
+// work: there a long wait is one for a thread that another program keeps from its processor.
 const PART: u32 = 2;
+
+const FREE: u64 = 10_000;
+
+// A phase that took so many times its time was late. On an idle machine 33 threads take less than twice theirs.
+const LATE: u32 = 4;
 
 /// What the threads of one phase share, beside the board: how many of them have come and how many are done, and whether one of
 /// them has ended it, so that the others don't wait for its actors.
@@ -16,7 +21,7 @@ pub(crate) struct Phase<'a> {
     // Whether each core has a worker of its own.
     own: bool,
     processors: u32,
-    // How long the phase may take, or each thread may wait beside a part of its work.
+    // How long it may take where time ends it.
     allowed: Duration,
     come: AtomicU32,
     done: AtomicU32,
@@ -51,6 +56,12 @@ impl<'a> Phase<'a> {
         self.threads
     }
 
+    /// Whether it took several times as long as it may until all seats had met: then its threads waited for processors that
+    /// other programs had.
+    pub(crate) fn is_late(&self, spent: Duration) -> bool {
+        spent > self.allowed.saturating_mul(LATE)
+    }
+
     /// Whether one thread makes it.
     pub(crate) fn is_alone(&self) -> bool {
         self.threads <= 1
@@ -81,7 +92,7 @@ impl<'a> Phase<'a> {
         }
         let worked = spent.saturating_sub(waited);
         let part = worked.checked_div(PART).unwrap_or(Duration::ZERO);
-        waited <= self.allowed.saturating_add(part)
+        waited <= Duration::from_micros(FREE).saturating_add(part)
     }
 
     /// Whether time counts: where plans are made beside the run, only once all of them are made.

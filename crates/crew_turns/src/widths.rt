@@ -5,9 +5,12 @@ use std::time::Duration;
 // For how many microseconds workers of all cores are tried, where there are more of them than processors, and one thread. Fewer
 // threads than workers have half of it, half as many a quarter, and so on. So all trials together take less than twice as long,
 // besides that of one thread, which loses nothing.
-const TRIAL: u64 = 10_000;
+const TRIAL: u64 = 5_000;
 
-// The time of a phase is doubled so often at most: to 10 seconds.
+// After a late phase one thread goes on for 2 to the power of this times its trial, 80 milliseconds, before others are tried.
+const PAUSE: u32 = 4;
+
+// The time of a phase is doubled so often at most: to 5 seconds.
 const DOUBLINGS: u32 = 10;
 
 /// The numbers of threads that may make a phase, and how fast each was when it was last tried.
@@ -68,14 +71,41 @@ impl Widths {
         if let Some(pace) = self.paces.get_mut(self.place) {
             *pace = ticks.saturating_mul(1_000) / micros.max(1);
         }
+        if phase.is_late(spent) && !phase.is_alone() {
+            (self.place, self.times) = (self.alone(), PAUSE);
+            return true;
+        }
         let fastest = self.fastest();
-        self.times = if fastest == self.place {
-            self.times.saturating_add(1)
+        if fastest == self.place {
+            self.times = self.times.saturating_add(1);
+            self.raise_others();
         } else {
-            0
-        };
-        self.place = fastest;
+            self.place = fastest;
+            self.times = self.times.saturating_sub(3);
+        }
         true
+    }
+
+    // Takes the others for faster by a sixteenth than before. So one that is about as fast is soon tried again, in a phase of an
+    // eighth of the present one's time, and one that is slow is not.
+    fn raise_others(&mut self) {
+        for place in 0..8 {
+            if place != self.place {
+                let pace = self.paces[place];
+                self.paces[place] = pace.saturating_add(pace / 16);
+            }
+        }
+    }
+
+    // Which of them is one thread.
+    fn alone(&self) -> usize {
+        let mut alone = 0;
+        for place in 0..8 {
+            if self.threads[place] > 0 {
+                alone = place;
+            }
+        }
+        alone
     }
 
     // Which of them is the fastest, as far as is known.
