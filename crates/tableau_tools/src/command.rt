@@ -237,10 +237,10 @@ const EXPORT: Entry = Entry {
         Word {
             name: "FORMAT",
             kind: Kind::Value(ValueParser::Names(&[
-                "csv", "chrome", "json", "rtds", "deadline", "cgroup", "libvirt",
+                "csv", "chrome", "json", "rtds", "deadline", "cgroup", "libvirt", "scx",
             ])),
             is_required: true,
-            help: "The text to write: comma-separated values, trace events, JSON; lines for Xen's RTDS, for Linux's deadline tasks or cgroups, or for libvirt",
+            help: "The text to write: comma-separated values, trace events, JSON; lines for Xen's RTDS, for Linux's deadline tasks or cgroups, or for libvirt; the tables for Linux's sched_ext",
             ..VALUE
         },
         FILE,

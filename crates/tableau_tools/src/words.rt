@@ -3,6 +3,7 @@
 use clap::ArgMatches;
 use tool_hosts::{JudgeWords, LineForm, LineWords, PlaceWords, SizeWords, export_lines};
 use tool_input::Fault;
+use tool_kernel::export_tables;
 use tool_views::{
     ChartWords, DiffWords, ExportWords, Form, Format, TableWords, export_view, form_of,
 };
@@ -61,6 +62,7 @@ pub(crate) fn export(rt: &HostRuntime, matches: &ArgMatches<'_>) -> Result<(), F
         Some("deadline") => export_lines(rt, &line_words(matches, LineForm::Deadline)),
         Some("cgroup") => export_lines(rt, &line_words(matches, LineForm::Cgroup)),
         Some("libvirt") => export_lines(rt, &line_words(matches, LineForm::Libvirt)),
+        Some("scx") => export_tables(rt, matches.get_str("FILE")),
         Some("chrome") => export_view(rt, &export_words(matches, Format::Chrome)),
         Some("json") => export_view(rt, &export_words(matches, Format::Json)),
         _ => export_view(rt, &export_words(matches, Format::Csv)),
@@ -69,14 +71,14 @@ pub(crate) fn export(rt: &HostRuntime, matches: &ArgMatches<'_>) -> Result<(), F
 
 // Refuses an option that says nothing of the format.
 fn suits_format(matches: &ArgMatches<'_>, format: &str) -> Result<(), Fault> {
-    let is_view = format == "csv" || format == "chrome" || format == "json";
+    let is_whole = format == "csv" || format == "chrome" || format == "json" || format == "scx";
     if matches.get_flag("full") && format != "deadline" {
         return other_format("--full", "deadline");
     }
-    if matches.get_one::<u32>("first-cpu").is_some() && is_view {
+    if matches.get_one::<u32>("first-cpu").is_some() && is_whole {
         return other_format("--first-cpu", "rtds, deadline, cgroup and libvirt");
     }
-    if matches.get_str("map").is_some() && is_view {
+    if matches.get_str("map").is_some() && is_whole {
         return other_format("--map", "rtds, deadline, cgroup and libvirt");
     }
     let has_times = format == "chrome" || format == "json";

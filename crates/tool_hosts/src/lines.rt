@@ -6,7 +6,7 @@ use tab_core::Vcpu;
 use tab_io::{Sink, WriteFault};
 use tab_words::cut_sections;
 use tool_input::{
-    Fault, Input, Refusal, cut_in_return, finish, host_of, input_beside, output_of, plan_of,
+    Fault, Input, Refusal, finish, host_of, input_beside, no_host, output_of, plan_of,
 };
 use view_doc::View;
 use view_schedulers::{
@@ -76,14 +76,6 @@ pub fn export_lines(rt: &HostRuntime, words: &LineWords<'_>) -> Result<(), Fault
     let mut sink = output_of(rt)?;
     put_lines(&mut sink, form, first_cpu, host.tick_ns, &vcpus, &view)?;
     finish(&mut sink)
-}
-
-// The fault of so many sections, which aren't a host and its plan.
-fn no_host(place: String, bytes: &[u8], count: u32) -> Fault {
-    match cut_in_return(bytes) {
-        Some(line) => Fault::Return { place, line },
-        None => Fault::NoHost { place, count },
-    }
 }
 
 // Why the plan isn't put there, if it isn't.

@@ -21,6 +21,22 @@ pub enum Fault {
         line: u32,
         text: String,
     },
+    #[error("{place}line {line} of the plan isn't of a plan of this host, or isn't in its place: '{text}'; plan the host again, or give the host that was planned")]
+    BadHostPlanLine {
+        place: String,
+        line: u32,
+        text: String,
+    },
+    #[error("{place}the host has no plan, since no period meets the latency of {name}: give it a longer one, or a larger share")]
+    Unplanned {
+        place: String,
+        name: String,
+    },
+    #[error("{place}the tables are no plan of this host, since {why}: tableau check says more, and tableau plan makes one that is")]
+    Faulty {
+        place: String,
+        why: String,
+    },
     #[error("{place}line {line} isn't of the report of a run, or isn't in its place: '{text}'")]
     BadReportLine {
         place: String,

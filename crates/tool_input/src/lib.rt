@@ -15,7 +15,7 @@ mod unkept;
 
 pub use fault::Fault;
 pub use input::{Input, LIMIT, input_beside, input_of, read_once, unread};
-pub use mistaken::{Wanted, bad_line, cut_in_return};
+pub use mistaken::{Wanted, bad_line, cut_in_return, no_host};
 pub use output::{finish, output_of};
 pub use plan::{drawable, host_of, plan_of, view_in, view_of};
 pub use planned::{Planned, planned_in, planned_of, shown_of, tick_of};

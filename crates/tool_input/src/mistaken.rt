@@ -8,6 +8,8 @@ use tab_words::Lines;
 pub enum Wanted {
     /// A plan alone.
     Plan,
+    /// A plan of the host before it.
+    HostPlan,
     /// A plan, a replay or a trace.
     View,
     /// The report of a run.
@@ -46,10 +48,19 @@ pub fn bad_line(alloc: Global, place: &str, bytes: &[u8], line: u32, wanted: Wan
     match shown(alloc, text) {
         Ok(text) => match wanted {
             Wanted::Plan => Fault::BadPlanLine { place, line, text },
+            Wanted::HostPlan => Fault::BadHostPlanLine { place, line, text },
             Wanted::View => Fault::BadLine { place, line, text },
             Wanted::Report => Fault::BadReportLine { place, line, text },
         },
         Err(_) => Fault::NoMemory,
+    }
+}
+
+/// The fault of so many sections, which aren't a host and its plan.
+pub fn no_host(place: String, bytes: &[u8], count: u32) -> Fault {
+    match cut_in_return(bytes) {
+        Some(line) => Fault::Return { place, line },
+        None => Fault::NoHost { place, count },
     }
 }
 
@@ -88,7 +99,7 @@ fn other_kind(first: &[u8], wanted: Wanted) -> Option<&'static str> {
         return None;
     }
     match wanted {
-        Wanted::Plan => Some(
+        Wanted::Plan | Wanted::HostPlan => Some(
             "it is the report of a run, and no plan: table --json and table --csv write it",
         ),
         Wanted::View => {
