@@ -1,18 +1,22 @@
 -- What is owed of a window, and runs that keep a plan.
-use Rattle.std.proofs.Common.{arith, ◌≡◌, ℕ, zero, suc, ◌+◌, ◌*◌, ◌-◌, ◌/◌, ◌<◌, ◌≤◌, IsTrue, get_or, ap, inl, inr, subst, sym, ⊎_elim}
+use Rattle.std.proofs.Common.{arith, ◌≡◌, ℕ, zero, suc, ◌+◌, ◌*◌, ◌-◌, ◌/◌, ◌<◌, ◌≤◌, IsTrue, List, [], ◌∷◌, ◌++◌, length, Option, Some, get_or, ap, inl, inr, subst, sym, ⊎_elim}
 use Rattle.std.proofs.Math.Nat.{div-mul-le_self, lt-div-mul-add}
 use Rattle.std.proofs.lemmas.Bool.{cases_lt}
 use Rattle.std.proofs.lemmas.Nat.{mul-le}
 use Rattle.tab_core.specs.declared.TheConstants.{PERIODS}
 use Rattle.tab_core.specs.declared.reservation.Reservation.{Reservation}
+use Rattle.std.specs.Prelude.{slice_get}
+use Rattle.tab_core.specs.declared.vcpu.Vcpu.{Vcpu}
 use Rattle.tab_core.specs.Period.{is_period}
+use Rattle.tab_core.proofs.Lists.{push_split}
 use Rattle.tab_core.proofs.Periods.{period_at, periods_rise, place_of_period}
 use Rattle.period_choice.specs.Choice.{MeetsLatency}
 use Rattle.reservation.specs.Cost.{cost}
 use Rattle.host_judge.specs.Courses.{StateCourse}
 use Rattle.host_judge.specs.Inside.Windowed.{ran_by}
-use Rattle.host_judge.specs.Owed.{IsHidden, KeepsPlan, due, whole_periods}
+use Rattle.host_judge.specs.Owed.{AreOwedByShares, IsHidden, IsOwedByShare, KeepsPlan, due, whole_periods}
 use Rattle.host_judge.specs.Windows.{IsWindow, run_in, runnable_before}
+use Rattle.host_judge.specs.declared.owed.Owed.{Owed}
 use Rattle.host_judge.specs.declared.owed.Owed.TheVariants.{Plan}
 use Rattle.host_judge.specs.declared.owed.PlanOwed.{PlanOwed}
 use Rattle.host_judge.proofs.PlaceLemmas.{count_between, count_order}
@@ -33,6 +37,23 @@ pub share_fits : (share ns : ℕ) → share ≤ 1000000 → (share * ns + 999999
 share_fits share ns low =
     let less : share * ns ≤ 1000000 * ns = mul-le share ns 1000000 ns low (omega arith) in
     omega (arith, less)
+
+-- ---- what each vCPU of a host is owed
+
+pub none_owed : (vcpus : List Vcpu) (tick : ℕ) → AreOwedByShares vcpus tick []
+none_owed vcpus tick v vcpu one at_vcpu at_one = absurd cc
+
+-- the next of them
+pub owed_more : (vcpus : List Vcpu) (tick : ℕ) (owed : List (Option Owed)) (vcpu : Vcpu) (one : Option Owed)
+    → AreOwedByShares vcpus tick owed → slice_get vcpus (length owed) ≡ Some vcpu
+    → IsOwedByShare vcpu.reservation tick one → AreOwedByShares vcpus tick (owed ++ one ∷ [])
+owed_more vcpus tick owed vcpu one are at is v other found at_other at_found =
+    elim (push_split owed v one found at_found) [
+      | inl old ↦ are v other found at_other old
+      | inr (last, same) ↦ (let here : vcpu ≡ other = cc in
+          subst (λ (u : Vcpu). IsOwedByShare u.reservation tick found) here
+          (subst (λ t. IsOwedByShare vcpu.reservation tick t) same is))
+    ]
 
 -- ---- what the ends of a window hide
 

@@ -2,15 +2,17 @@
 -- Sources: C. L. Liu, J. W. Layland, "Scheduling algorithms for multiprogramming in a hard-real-time environment", Journal
 -- of the ACM 20(1), 1973, for a cost in each period; I. Shin, I. Lee, "Periodic resource model for compositional real-time
 -- guarantees", RTSS 2003, for what both ends of a time hide of a share, which is what their linear bound of supply leaves out.
-use Rattle.std.specs.Prelude.{◌≡◌, ◌⊎◌, ℕ, ◌+◌, ◌*◌, ◌-◌, ◌/◌, ◌<◌, ◌≤◌}
+use Rattle.std.specs.Prelude.{◌≡◌, ◌⊎◌, ℕ, ◌+◌, ◌*◌, ◌-◌, ◌/◌, ◌<◌, ◌≤◌, List, Option, Some, None, slice_get}
 use Rattle.tab_core.specs.declared.TheConstants.{WHOLE_PPM}
 use Rattle.tab_core.specs.declared.reservation.Reservation.{Reservation}
+use Rattle.tab_core.specs.declared.vcpu.Vcpu.{Vcpu}
 use Rattle.period_choice.specs.Choice.{HasPeriod, IsAdmissible}
 use Rattle.reservation.specs.Cost.{cost}
 use Rattle.host_judge.specs.Courses.{StateCourse}
 use Rattle.host_judge.specs.Windows.{run_in, runnable_before}
 use Rattle.host_judge.specs.declared.owed.Owed.{Owed}
 use Rattle.host_judge.specs.declared.owed.Owed.TheVariants.{Plan, Share}
+use Rattle.host_judge.specs.declared.owed.PlanOwed.{PlanOwed}
 use Rattle.host_judge.specs.declared.owed.ShareOwed.{ShareOwed}
 
 -- ---- how much is owed
@@ -42,6 +44,21 @@ IsHidden r tick_ns ns = ((period : ℕ) × IsHiddenBy r tick_ns period ns) ⊎ (
 pub record IsShareOwed (r : Reservation) (tick_ns : ℕ) (owed : ShareOwed) : Type 0 where
   pub share : owed.share_ppm ≡ r.share_ppm
   pub hidden : IsHidden r tick_ns owed.hidden_ns
+
+-- what a vCPU is owed where no plan is known: nothing where it has no reservation
+abbrev pub IsOwedByShare : Option Reservation → ℕ → Option Owed → Type 0
+IsOwedByShare None tick_ns owed = owed ≡ None
+IsOwedByShare (Some r) tick_ns owed = (by : ShareOwed) × (owed ≡ Some (Share by)) × IsShareOwed r tick_ns by
+
+-- that for the first vCPUs
+abbrev pub AreOwedByShares : List Vcpu → ℕ → List (Option Owed) → Type 0
+AreOwedByShares vcpus tick_ns owed = (v : ℕ) (vcpu : Vcpu) (one : Option Owed) → slice_get vcpus v ≡ Some vcpu
+    → slice_get owed v ≡ Some one → IsOwedByShare vcpu.reservation tick_ns one
+
+-- a plan owes so many ticks of each period
+pub record IsPlanOwed (cost period tick_ns : ℕ) (owed : PlanOwed) : Type 0 where
+  pub costs : owed.cost_ns ≡ cost * tick_ns
+  pub lasts : owed.period_ns ≡ period * tick_ns
 
 -- ---- runs that keep a plan
 

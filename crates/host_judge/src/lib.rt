@@ -25,7 +25,7 @@ mod tracker;
 mod waits;
 mod windows;
 
-pub use dues::owed_by_share;
+pub use dues::{owed_by_plan, owed_by_share, owed_by_shares};
 pub use fault::JudgeFault;
 pub use judging::judge_trace;
 pub use laws::a_kept_plan_is_never_broken;

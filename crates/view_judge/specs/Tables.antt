@@ -97,13 +97,20 @@ unfoldable pub verdict_text : ℕ → ℕ → List ℕ → List ℕ
 verdict_text end window kept = codes "\ntrace up to " ++ (millis_cell 0 end
     ++ (codes " ms, in windows of " ++ (millis_cell 0 window ++ (codes " ms: " ++ kept))))
 
--- how many vCPUs weren't judged, if more than one
-unfoldable pub unjudged_many : ℕ → List ℕ
-unjudged_many count = codes ", and the shares of " ++ (decimal count ++ codes " vCPUs were not judged\n")
+-- what is before and after the count of those that weren't judged, which may be one
+abbrev pub shares_of : ℕ → List ℕ
+shares_of count = if count == 1 then codes ", and the share of " else codes ", and the shares of "
+
+abbrev pub were_of : ℕ → List ℕ
+were_of count = if count == 1 then codes " vCPU was not judged\n" else codes " vCPUs were not judged\n"
+
+-- a count between words
+unfoldable pub unjudged_by : List ℕ → ℕ → List ℕ → List ℕ
+unjudged_by shares count were = shares ++ (decimal count ++ were)
 
 -- how many vCPUs weren't judged
 abbrev pub unjudged_text : ℕ → List ℕ
-unjudged_text count = if count == 1 then codes ", and the share of 1 vCPU was not judged\n" else unjudged_many count
+unjudged_text count = unjudged_by (shares_of count) count (were_of count)
 
 -- what is behind the words for whether all was kept
 abbrev pub verdict_end : Verdict → List ℕ

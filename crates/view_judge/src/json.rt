@@ -336,11 +336,11 @@ fn put_answers<K: Sink>(sink: &mut K, report: &VcpuReport) -> Result<(), WriteFa
 }
 
 #[tactic(auto, unfolding(crate::specs::Json::answers_json))]
-fn put_all_answers<K: Sink>(
+fn put_all_answers<'x, K: Sink>(
     sink: &mut K,
-    share: &[u8],
-    waits: &[u8],
-    kept: &[u8],
+    share: &'x [u8],
+    waits: &'x [u8],
+    kept: &'x [u8],
 ) -> Result<(), WriteFault>
     ensures { Writes (K.state sink.old) (K.state sink.new) (answers_json share.now waits.now kept.now) result }
 {

@@ -2,7 +2,7 @@ ghost use Rattle.std.specs.Prelude.{◌≡◌, length, slice_get};
 ghost use Rattle.tab_io.specs.Sinks.{Writes};
 ghost use Rattle.tab_words.specs.Texts.{texts_below};
 ghost use Rattle.view_judge.specs.Verdicts.{is_any_seen};
-ghost use Rattle.view_judge.specs.Tables.{doubled_kind, fall_kind, judgement_end, line_count_text, line_text, lines_text, rows_text, share_cells, share_head, share_row, share_said, shared_kind, tables_of, tables_text, unjudged_many, unjudged_text, unknown_kind, unseen_text, verdict_end, verdict_text, verdict_words, wait_cells, wait_head, wait_row, wait_said};
+ghost use Rattle.view_judge.specs.Tables.{doubled_kind, fall_kind, judgement_end, line_count_text, line_text, lines_text, rows_text, share_cells, share_head, share_row, share_said, shared_kind, shares_of, tables_of, tables_text, unjudged_by, unjudged_text, unknown_kind, unseen_text, verdict_end, verdict_text, verdict_words, wait_cells, wait_head, wait_row, wait_said, were_of};
 
 use crate::cells::{
     asked_cell, begin_cell, cpu_cell, kept_cell, late_cell, least_cell, longest_cell, owed_cell,
@@ -66,7 +66,7 @@ fn put_rows<K: Sink>(
 fn put_end<K: Sink>(sink: &mut K, verdict: Verdict, report: &Report) -> Result<(), WriteFault>
     ensures { Writes (K.state sink.old) (K.state sink.new) (judgement_end verdict report.now) result }
 {
-    put_verdict(sink, report.end_ns, report.window_ns, verdict_words(verdict))?;
+    put_verdict(sink, report.end_ns, report.window_ns, verdict)?;
     put_verdict_end(sink, verdict)?;
     put_lines(sink, report)
 }
@@ -255,8 +255,20 @@ fn put_wait_cells<K: Sink>(
 }
 
 // Writes when the trace ends, how long a window is, and whether all was kept.
-#[tactic(auto, unfolding(crate::specs::Tables::verdict_text))]
 fn put_verdict<K: Sink>(
+    sink: &mut K,
+    end_ns: u64,
+    window_ns: u64,
+    verdict: Verdict,
+) -> Result<(), WriteFault>
+    ensures { Writes (K.state sink.old) (K.state sink.new)
+        (verdict_text end_ns window_ns (verdict_words verdict)) result }
+{
+    put_judged(sink, end_ns, window_ns, verdict_words(verdict))
+}
+
+#[tactic(auto, unfolding(crate::specs::Tables::verdict_text))]
+fn put_judged<K: Sink>(
     sink: &mut K,
     end_ns: u64,
     window_ns: u64,
@@ -301,25 +313,46 @@ fn put_verdict_end<K: Sink>(sink: &mut K, verdict: Verdict) -> Result<(), WriteF
 fn put_unjudged<K: Sink>(sink: &mut K, count: u64) -> Result<(), WriteFault>
     ensures { Writes (K.state sink.old) (K.state sink.new) (unjudged_text count) result }
 {
-    if count == 1 {
-        write_all(sink, b", and the share of 1 vCPU was not judged\n")
-    } else {
-        put_unjudged_many(sink, count)
-    }
+    put_unjudged_by(sink, shares_of(count), count, were_of(count))
 }
 
-#[tactic(auto, unfolding(crate::specs::Tables::unjudged_many))]
-fn put_unjudged_many<K: Sink>(sink: &mut K, count: u64) -> Result<(), WriteFault>
-    ensures { Writes (K.state sink.old) (K.state sink.new) (unjudged_many count) result }
+#[tactic(auto, unfolding(crate::specs::Tables::unjudged_by))]
+fn put_unjudged_by<'x, K: Sink>(
+    sink: &mut K,
+    shares: &'x [u8],
+    count: u64,
+    were: &'x [u8],
+) -> Result<(), WriteFault>
+    ensures { Writes (K.state sink.old) (K.state sink.new) (unjudged_by shares.now count were.now) result }
 {
     put_pieces(
         sink,
         &[
-            TextPiece::Text(b", and the shares of "),
+            TextPiece::Text(shares),
             TextPiece::Wide(count),
-            TextPiece::Text(b" vCPUs were not judged\n"),
+            TextPiece::Text(were),
         ],
     )
+}
+
+fn shares_of(count: u64) -> &'static [u8]
+    ensures { result.now ≡ shares_of count }
+{
+    if count == 1 {
+        b", and the share of "
+    } else {
+        b", and the shares of "
+    }
+}
+
+fn were_of(count: u64) -> &'static [u8]
+    ensures { result.now ≡ were_of count }
+{
+    if count == 1 {
+        b" vCPU was not judged\n"
+    } else {
+        b" vCPUs were not judged\n"
+    }
 }
 
 // Writes what is wrong with the trace itself.
