@@ -36,7 +36,7 @@ pub record IsHiddenBy (r : Reservation) (tick_ns period ns : ℕ) : Type 0 where
   pub largest : (other : ℕ) → IsAdmissible r tick_ns other → other ≤ period
   pub twice : ns ≡ 2 * (period - cost r.share_ppm period) * tick_ns
 
--- so much may both ends of a window hide by the largest admissible period; nothing where none is admissible
+-- both ends of a window may hide so much by the largest admissible period, and nothing where none is admissible
 abbrev pub IsHidden : Reservation → ℕ → ℕ → Type 0
 IsHidden r tick_ns ns = ((period : ℕ) × IsHiddenBy r tick_ns period ns) ⊎ ((HasPeriod r tick_ns → ⊥) × (ns ≡ 0))
 

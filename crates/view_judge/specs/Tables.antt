@@ -112,7 +112,7 @@ unjudged_by shares count were = shares ++ (decimal count ++ were)
 abbrev pub unjudged_text : ℕ → List ℕ
 unjudged_text count = unjudged_by (shares_of count) count (were_of count)
 
--- what is behind the words for whether all was kept
+-- what comes after the words for whether all was kept
 abbrev pub verdict_end : Verdict → List ℕ
 verdict_end Kept = codes "\n"
 verdict_end (Unjudged count) = unjudged_text count

@@ -299,7 +299,7 @@ fn verdict_words(verdict: Verdict) -> &'static [u8]
     }
 }
 
-// Writes what is behind these words.
+// Writes what comes after these words.
 fn put_verdict_end<K: Sink>(sink: &mut K, verdict: Verdict) -> Result<(), WriteFault>
     ensures { Writes (K.state sink.old) (K.state sink.new) (verdict_end verdict) result }
 {

@@ -16,7 +16,7 @@ pub record IsPlace (course : StateCourse) (time place : ℕ) : Type 0 where
   pub runnable : is_runnable (course time) ≡ true
   pub before : runnable_before course time ≡ place
 
--- so are the ns after a time, as many as a count
+-- the ns from a time on, as many as a count, are such places one after the other
 pub record IsPlacedOn (course : StateCourse) (time place ns : ℕ) : Type 0 where
   pub each : (more : ℕ) → more < ns → IsPlace course (time + more) (place + more)
 
