@@ -292,7 +292,7 @@ const JUDGE: Entry = Entry {
         Word {
             name: "plan",
             kind: Kind::Option("FILE", TEXT),
-            help: "Judges shares by the host's plan: the cost of each whole period that a window holds",
+            help: "Judges shares by this plan of the host, which owes the cost of each whole period that a window holds",
             ..VALUE
         },
         JSON,

@@ -1,9 +1,9 @@
 ghost use Rattle.std.specs.Prelude.{◌≡◌, ◌≤◌, IfOk, length};
-ghost use Rattle.tab_core.specs.declared.TheConstants.{MAX_TICK_NS, MIN_TICK_NS};
+ghost use Rattle.tab_core.specs.declared.TheConstants.{MAX_TICK_NS, MAX_VCPUS, MIN_TICK_NS};
 
 use host_judge::{Owed, owed_by_plan, owed_by_shares};
 use std::alloc::Global;
-use tab_core::{Reservation, Vcpu, VcpuNo, WHOLE_PPM};
+use tab_core::{Vcpu, VcpuNo, WHOLE_PPM};
 use tool_input::{Fault, Refusal, input_of, planned_in, shown};
 use view_doc::{Task, View};
 use view_schedulers::Unkept;
@@ -36,7 +36,8 @@ fn planned_for(
     vcpus: &[Vcpu],
     tick_ns: u32,
 ) -> Result<Vec<Option<Owed>>, Fault>
-    requires { MIN_TICK_NS ≤ tick_ns }
+    requires few { length view.now.tasks.items ≤ MAX_VCPUS }
+    requires tick { MIN_TICK_NS ≤ tick_ns }
     ensures { IfOk result (λ owed. length owed.items ≡ length vcpus.now) }
 {
     let mut owed = Vec::with_capacity(alloc, vcpus.len())?;
@@ -55,7 +56,8 @@ fn planned_of(
     vcpu: &Vcpu,
     tick_ns: u32,
 ) -> Result<Option<Owed>, Fault>
-    requires { MIN_TICK_NS ≤ tick_ns }
+    requires few { length view.now.tasks.items ≤ MAX_VCPUS }
+    requires tick { MIN_TICK_NS ≤ tick_ns }
 {
     let Some(reserved) = vcpu.reservation else {
         return Ok(None);
@@ -67,7 +69,7 @@ fn planned_of(
             name: shown(alloc, name)?,
         });
     };
-    if is_share_planned(&task, &reserved) {
+    if is_share_planned(reserved.share_ppm, task.period, task.cost) {
         if let Some(by) = owed_by_plan(task.cost, task.period, tick_ns) {
             return Ok(Some(Owed::Plan(by)));
         }
@@ -79,11 +81,13 @@ fn planned_of(
 }
 
 // The plan's vCPU of a name, with its number.
-fn task_of(view: &View, name: &[u8]) -> Option<(VcpuNo, Task)> {
-    for (number, task) in view.tasks.iter().enumerate() {
+fn task_of(view: &View, name: &[u8]) -> Option<(VcpuNo, Task)>
+    requires { length view.now.tasks.items ≤ MAX_VCPUS }
+{
+    for number in 0..view.tasks.len() {
         if let Some(one) = view.names.get(number) {
             if one.bytes() == name {
-                return Some((VcpuNo(number as u32), *task));
+                return Some((VcpuNo(number as u32), view.tasks[number]));
             }
         }
     }
@@ -91,7 +95,6 @@ fn task_of(view: &View, name: &[u8]) -> Option<(VcpuNo, Task)> {
 }
 
 // Whether the cost is the share of the period, or more.
-fn is_share_planned(task: &Task, reserved: &Reservation) -> bool {
-    u64::from(reserved.share_ppm) * u64::from(task.period)
-        <= u64::from(task.cost) * u64::from(WHOLE_PPM)
+fn is_share_planned(share_ppm: u32, period: u32, cost: u32) -> bool {
+    u64::from(share_ppm) * u64::from(period) <= u64::from(cost) * u64::from(WHOLE_PPM)
 }
