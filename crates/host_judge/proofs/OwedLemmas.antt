@@ -1,5 +1,5 @@
 -- What is owed of a window, and runs that keep a plan.
-use Rattle.std.proofs.Common.{arith, ◌≡◌, ℕ, zero, suc, ◌+◌, ◌*◌, ◌-◌, ◌/◌, ◌<◌, ◌≤◌, IsTrue, List, [], ◌∷◌, ◌++◌, length, Option, Some, get_or, ap, inl, inr, subst, sym, ⊎_elim}
+use Rattle.std.proofs.Common.{arith, ◌≡◌, ℕ, zero, suc, ◌+◌, ◌*◌, ◌-◌, ◌/◌, ◌<◌, ◌≤◌, IsTrue, if◌then◌else◌, List, [], ◌∷◌, ◌++◌, length, Option, Some, None, get_or, ap, inl, inr, refl, subst, sym, ⊎_elim}
 use Rattle.std.proofs.Math.Nat.{div-mul-le_self, lt-div-mul-add}
 use Rattle.std.proofs.lemmas.Bool.{cases_lt}
 use Rattle.std.proofs.lemmas.Nat.{mul-le}
@@ -12,14 +12,15 @@ use Rattle.tab_core.proofs.Lists.{push_split}
 use Rattle.tab_core.proofs.Periods.{period_at, periods_rise, place_of_period}
 use Rattle.period_choice.specs.Choice.{MeetsLatency}
 use Rattle.reservation.specs.Cost.{cost}
-use Rattle.host_judge.specs.Courses.{StateCourse}
+use Rattle.host_judge.specs.Courses.{IsSteady, StateCourse}
 use Rattle.host_judge.specs.Inside.Windowed.{ran_by}
-use Rattle.host_judge.specs.Owed.{AreOwedByShares, IsHidden, IsOwedByShare, KeepsPlan, due, whole_periods}
-use Rattle.host_judge.specs.Windows.{IsWindow, run_in, runnable_before}
+use Rattle.host_judge.specs.Owed.{AreOwedByShares, IsHidden, IsNeverBlocked, IsOwedByShare, KeepsPlan, KeepsPlanInTime, due, whole_periods}
+use Rattle.host_judge.specs.Windows.{IsWindow, is_runnable, run_in, runnable_before}
 use Rattle.host_judge.specs.declared.owed.Owed.{Owed}
 use Rattle.host_judge.specs.declared.owed.Owed.TheVariants.{Plan}
 use Rattle.host_judge.specs.declared.owed.PlanOwed.{PlanOwed}
-use Rattle.host_judge.proofs.PlaceLemmas.{count_between, count_order}
+use Rattle.host_judge.proofs.CourseLemmas.{total_ones}
+use Rattle.host_judge.proofs.PlaceLemmas.{count_between, count_not, count_order, count_within}
 use Rattle.host_judge.proofs.WindowLemmas.{ran_within}
 
 -- ---- how much is owed
@@ -172,3 +173,64 @@ pub kept_plan : (course : StateCourse) (window time begin start end : ℕ) (by :
 kept_plan course window time begin start end by some keeps is =
     whole_by course window time begin start end (whole_periods window by.period_ns) by keeps is
     (div-mul-le_self (window - (by.period_ns - 1)) by.period_ns) some
+
+-- ---- a run that is never blocked
+
+-- nothing before it is known
+count_first : (course : StateCourse) (first time : ℕ) → IsNeverBlocked course first time
+    → runnable_before course first ≡ 0
+count_first course first time never =
+    let before : IsSteady course None 0 first = record { held = λ t low high. never.unknown t high } in
+    count_not course None 0 first (omega arith) refl before
+
+-- so much of it has run and waited
+count_after : (course : StateCourse) (first time ns : ℕ) → IsNeverBlocked course first time → first + ns ≤ time
+    → runnable_before course (first + ns) ≡ ns
+count_after course first time ns never within =
+    let none = count_first course first time never in
+    let f : ℕ → ℕ = λ t. if is_runnable (course t) then 1 else 0 in
+    let ones : (t : ℕ) → first ≤ t → t < first + ns → f t ≡ 1 = λ t low high.
+    ap (λ b. if b then 1 else 0) (never.runnable t low (omega arith)) in
+    let more = total_ones f first ns ones in
+    omega (arith, none, more)
+
+pub kept_in_time : (course : StateCourse) (first time cost period begin : ℕ) → IsNeverBlocked course first time
+    → KeepsPlanInTime course first time cost period begin → KeepsPlan course time cost period begin
+kept_in_time course first time by period begin never keeps = record {
+  early = keeps.early;
+  each = λ k s e within low high.
+      (let more : (k + 1) * period ≡ k * period + period = grind arith in
+      let early = keeps.early in
+      let zero : runnable_before course (first + 0) ≡ runnable_before course first =
+      ap (runnable_before course) (omega arith) in
+      let later : first < e = ⊎_elim
+      (λ before. before)
+      (λ after.
+      (let some = count_within course e first after in
+      let least = count_first course first time never in
+      absurd (omega (arith, some.0, least, high, more, early))))
+      (cases_lt first e) in
+      let span : first + (e - first) ≡ e = omega (arith, later) in
+      let counted = count_after course first time (e - first) never (omega (arith, span, within)) in
+      let end : e ≡ first + begin + (k + 1) * period =
+      omega (arith, counted, ap (runnable_before course) span, high, later) in
+      let ran = keeps.each k (omega (arith, end, within)) in
+      let same_end = ap (ran_by course) end in
+      ⊎_elim
+      (λ outside.
+      (let none = count_within course s first (omega (arith, outside)) in
+      let least = count_first course first time never in
+      let start : first + begin + k * period ≡ first = omega (arith, none.0, least, low) in
+      let same = ap (ran_by course) start in
+      let grows = ran_within course s first (omega (arith, outside)) in
+      omega (arith, ran, same, same_end, grows.0)))
+      (λ inside.
+      (let order = count_order course s e (omega (arith, low, high, more, early)) in
+      let from : first + (s - first) ≡ s = omega (arith, inside) in
+      let here = count_after course first time (s - first) never (omega (arith, from, order, within)) in
+      let start : s ≡ first + begin + k * period =
+      omega (arith, here, ap (runnable_before course) from, low, inside) in
+      let same = ap (ran_by course) start in
+      omega (arith, ran, same, same_end)))
+      (cases_lt s first));
+}

@@ -2,14 +2,14 @@
 -- Sources: C. L. Liu, J. W. Layland, "Scheduling algorithms for multiprogramming in a hard-real-time environment", Journal
 -- of the ACM 20(1), 1973, for a cost in each period; I. Shin, I. Lee, "Periodic resource model for compositional real-time
 -- guarantees", RTSS 2003, for what both ends of a time hide of a share, which is what their linear bound of supply leaves out.
-use Rattle.std.specs.Prelude.{◌≡◌, ◌⊎◌, ℕ, ◌+◌, ◌*◌, ◌-◌, ◌/◌, ◌<◌, ◌≤◌, List, Option, Some, None, slice_get}
+use Rattle.std.specs.Prelude.{◌≡◌, ◌⊎◌, ℕ, ◌+◌, ◌*◌, ◌-◌, ◌/◌, ◌<◌, ◌≤◌, true, List, Option, Some, None, slice_get}
 use Rattle.tab_core.specs.declared.TheConstants.{WHOLE_PPM}
 use Rattle.tab_core.specs.declared.reservation.Reservation.{Reservation}
 use Rattle.tab_core.specs.declared.vcpu.Vcpu.{Vcpu}
 use Rattle.period_choice.specs.Choice.{HasPeriod, IsAdmissible}
 use Rattle.reservation.specs.Cost.{cost}
 use Rattle.host_judge.specs.Courses.{StateCourse}
-use Rattle.host_judge.specs.Windows.{run_in, runnable_before}
+use Rattle.host_judge.specs.Windows.{is_runnable, run_in, runnable_before}
 use Rattle.host_judge.specs.declared.owed.Owed.{Owed}
 use Rattle.host_judge.specs.declared.owed.Owed.TheVariants.{Plan, Share}
 use Rattle.host_judge.specs.declared.owed.PlanOwed.{PlanOwed}
@@ -68,3 +68,15 @@ pub record KeepsPlan (course : StateCourse) (time cost period begin : ℕ) : Typ
   pub early : begin < period
   pub each : (k s e : ℕ) → e ≤ time → runnable_before course s ≡ begin + k * period
       → runnable_before course e ≡ begin + (k + 1) * period → cost ≤ run_in course s e
+
+-- a vCPU is known from a time on, and runs or waits from then on up to another
+pub record IsNeverBlocked (course : StateCourse) (first time : ℕ) : Type 0 where
+  pub unknown : (t : ℕ) → t < first → course t ≡ None
+  pub runnable : (t : ℕ) → first ≤ t → t < time → is_runnable (course t) ≡ true
+
+-- the time from one on is parted into periods of so many ns, of which the first begins within so many; in each that is
+-- whole by another time the vCPU runs for the cost
+pub record KeepsPlanInTime (course : StateCourse) (first time cost period begin : ℕ) : Type 0 where
+  pub early : begin < period
+  pub each : (k : ℕ) → first + begin + (k + 1) * period ≤ time
+      → cost ≤ run_in course (first + begin + k * period) (first + begin + (k + 1) * period)

@@ -28,6 +28,6 @@ mod windows;
 pub use dues::{owed_by_plan, owed_by_share, owed_by_shares};
 pub use fault::JudgeFault;
 pub use judging::judge_trace;
-pub use laws::a_kept_plan_is_never_broken;
+pub use laws::{a_kept_plan_is_never_broken, a_plan_kept_in_time_is_kept};
 pub use owed::{Owed, PlanOwed, ShareOwed};
 pub use report::{LeastShare, LineCount, LongestWait, Report, VcpuReport};
