@@ -183,7 +183,7 @@ count_first course first time never =
     let before : IsSteady course None 0 first = record { held = λ t low high. never.unknown t high } in
     count_not course None 0 first (omega arith) refl before
 
--- so much of it has run and waited
+-- how much of it has run and waited since then
 count_after : (course : StateCourse) (first time ns : ℕ) → IsNeverBlocked course first time → first + ns ≤ time
     → runnable_before course (first + ns) ≡ ns
 count_after course first time ns never within =
