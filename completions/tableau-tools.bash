@@ -6,7 +6,7 @@ _tableau_tools() {
   # how many arguments are before the word
   for ((at = 2; at < COMP_CWORD; at++)); do
     case $command,${COMP_WORDS[at]} in
-      table,--by | table,--tick | chart,--by | chart,--cores | chart,--vcpus | chart,--from | chart,--to | chart,--width | chart,--tick | diff,--by | diff,--tick | report,--old | export,--tick | export,--first-cpu | export,--map | judge,--window | host,--cores | host,--tick | fit,--cores | fit,--tick | place,--hosts | place,--cores | place,--kinds | place,--stay | place,--host | place,--tick) ((at++)) ;;
+      table,--by | table,--tick | chart,--by | chart,--cores | chart,--vcpus | chart,--from | chart,--to | chart,--width | chart,--tick | diff,--by | diff,--tick | report,--old | export,--tick | export,--first-cpu | export,--map | judge,--window | judge,--plan | host,--cores | host,--tick | fit,--cores | fit,--tick | place,--hosts | place,--cores | place,--kinds | place,--stay | place,--host | place,--tick) ((at++)) ;;
       *,-?*) ;;
       *) ((place++)) ;;
     esac
@@ -20,6 +20,7 @@ _tableau_tools() {
       diff,--by) words='vcpu vm' ;;
       report,--old) files=yes ;;
       export,--map) files=yes ;;
+      judge,--plan) files=yes ;;
       place,--kinds) files=yes ;;
       place,--stay) files=yes ;;
       table,--tick | chart,--cores | chart,--vcpus | chart,--from | chart,--to | chart,--width | chart,--tick | diff,--tick | export,--tick | export,--first-cpu | judge,--window | host,--cores | host,--tick | fit,--cores | fit,--tick | place,--hosts | place,--cores | place,--host | place,--tick) ;;
@@ -30,7 +31,7 @@ _tableau_tools() {
           diff,-*) words='--by --json --csv --tick --help' ;;
           report,-*) words='--old --help' ;;
           export,-*) words='--tick --first-cpu --full --map --help' ;;
-          judge,-*) words='--window --json --help' ;;
+          judge,-*) words='--window --plan --json --help' ;;
           sections,-*) words='--help' ;;
           host,-*) words='--cores --tick --help' ;;
           fit,-*) words='--cores --tick --help' ;;

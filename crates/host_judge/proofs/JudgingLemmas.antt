@@ -1,5 +1,5 @@
 -- The bytes of a trace that have come from its source.
-use Rattle.std.proofs.Common.{arith, ◌≡◌, ℕ, ◌+◌, ◌≤◌, List, [], ◌++◌, length, length-append, map, take, Result, Ok, Err, IfErr, IfOk, MatchResult, inl, refl, sym, subst, ◌∙◌}
+use Rattle.std.proofs.Common.{arith, ◌≡◌, ℕ, ◌+◌, ◌≤◌, List, [], ◌++◌, length, length-append, map, take, Option, Result, Ok, Err, IfErr, IfOk, MatchResult, inl, refl, sym, subst, ◌∙◌}
 use Rattle.std.proofs.KnownBytes.{Consumes-kept, Consumes-nil, Consumes-trans}
 use Rattle.std.proofs.lemmas.List.{length-take-le}
 use Rattle.std.proofs.lemmas.Option.{get_or_from_slice_get, slice_get_within}
@@ -25,6 +25,7 @@ use Rattle.host_judge.specs.Judgements.{HasJudgeFault, JudgesTrace}
 use Rattle.host_judge.specs.Reports.{IsJudgementOf}
 use Rattle.host_judge.specs.declared.fault.JudgeFault.{JudgeFault}
 use Rattle.host_judge.specs.declared.fault.JudgeFault.TheVariants.{BadLine, NoMemory, ReadFault, TooLong}
+use Rattle.host_judge.specs.declared.owed.Owed.{Owed}
 use Rattle.host_judge.specs.declared.reading.Reading.{Reading}
 use Rattle.host_judge.specs.declared.report.Report.{Report}
 
@@ -108,13 +109,13 @@ fault_of old new vcpus bytes TooLong is = omega (arith, is, length-lines_of byte
 fault_of old new vcpus bytes NoMemory is = tt
 
 -- a piece with a fault
-pub piece_fault : (first old new : SourceView) (vcpus : List Vcpu) (window : ℕ) (held : List ℕ) (reading : Reading)
+pub piece_fault : (first old new : SourceView) (vcpus : List Vcpu) (owed : List (Option Owed)) (window : ℕ) (held : List ℕ) (reading : Reading)
     (count reads : ℕ) (into : List ℕ) (fault : JudgeFault) → HasCome first old vcpus window held reading reads
     → Gave old new into (got.Bytes count) → old.faults ≤ new.faults
     → ((bytes : List ℕ) → HasReadBytes bytes held reading
     → IsFaultIn reading.names (lines_of (bytes ++ take count into)) fault)
-    → JudgesTrace first new vcpus window (Err fault)
-piece_fault first old new vcpus window held reading count reads into fault come gave later bad =
+    → JudgesTrace first new vcpus owed window (Err fault)
+piece_fault first old new vcpus owed window held reading count reads into fault come gave later bad =
     let told : IsFaultIn (names_of vcpus) (lines_of (come.bytes ++ take count into)) fault =
     subst (λ names. IsFaultIn names (lines_of (come.bytes ++ take count into)) fault) come.names
     (bad come.bytes come.read) in
@@ -126,30 +127,30 @@ piece_fault first old new vcpus window held reading count reads into fault come 
     }
 
 -- the source failed, or memory or numbers ran out
-pub failed_come : (first old new : SourceView) (vcpus : List Vcpu) (window : ℕ) (held into : List ℕ) (reading : Reading)
+pub failed_come : (first old new : SourceView) (vcpus : List Vcpu) (owed : List (Option Owed)) (window : ℕ) (held into : List ℕ) (reading : Reading)
     (reads : ℕ) → HasCome first old vcpus window held reading reads → Gave old new into got.Failed → old.faults ≤ new.faults
-    → JudgesTrace first new vcpus window (Err ReadFault)
-failed_come first old new vcpus window held into reading reads come gave later = record {
+    → JudgesTrace first new vcpus owed window (Err ReadFault)
+failed_come first old new vcpus owed window held into reading reads come gave later = record {
   bytes = come.bytes;
   consumed = Consumes-kept _ _ _ _ come.consumed gave.0;
   later = omega (arith, come.later, later);
   told = (let rose = gave.1 in omega (arith, come.later, rose));
 }
 
-pub ended_come : (first old new : SourceView) (vcpus : List Vcpu) (window : ℕ) (held into : List ℕ) (reading : Reading)
+pub ended_come : (first old new : SourceView) (vcpus : List Vcpu) (owed : List (Option Owed)) (window : ℕ) (held into : List ℕ) (reading : Reading)
     (reads : ℕ) (result : Result Report JudgeFault) → HasCome first old vcpus window held reading reads → Gave old new into got.End
     → old.faults ≤ new.faults
     → MatchResult result
-    (λ report. (all : List ℕ) → HasReadBytes all held reading → IsJudgementOf window vcpus all report)
+    (λ report. (all : List ℕ) → HasReadBytes all held reading → IsJudgementOf window vcpus owed all report)
     (λ fault. (all : List ℕ) → HasReadBytes all held reading → IsFaultIn (names_of vcpus) (lines_of all) fault)
-    → JudgesTrace first new vcpus window result
-ended_come first old new vcpus window held into reading reads (Ok report) come gave later told = record {
+    → JudgesTrace first new vcpus owed window result
+ended_come first old new vcpus owed window held into reading reads (Ok report) come gave later told = record {
   bytes = come.bytes;
   consumed = Consumes-kept _ _ _ _ come.consumed gave.0;
   later = omega (arith, come.later, later);
   told = (gave.1, told come.bytes come.read);
 }
-ended_come first old new vcpus window held into reading reads (Err fault) come gave later told = record {
+ended_come first old new vcpus owed window held into reading reads (Err fault) come gave later told = record {
   bytes = come.bytes;
   consumed = Consumes-kept _ _ _ _ come.consumed gave.0;
   later = omega (arith, come.later, later);

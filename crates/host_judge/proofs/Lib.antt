@@ -3,7 +3,9 @@ pub mod CourseLemmas
 pub mod JudgedLemmas
 pub mod JudgingLemmas
 pub mod MarkLemmas
+pub mod OwedLemmas
 pub mod PieceLemmas
+pub mod PlaceLemmas
 pub mod ReadingLemmas
 pub mod ReportLemmas
 pub mod SettledLemmas

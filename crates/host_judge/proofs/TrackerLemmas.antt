@@ -4,7 +4,7 @@ use Rattle.std.specs.Option.{option_or}
 use Rattle.host_trace.specs.declared.mark.Mark.{Mark}
 use Rattle.host_judge.specs.Courses.{IsSteady, StateCourse}
 use Rattle.host_judge.specs.Inside.Settled.{AgreeBefore, CountsOn, HasSettled, IsTracked}
-use Rattle.host_judge.specs.Inside.Windowed.{HasWindows}
+use Rattle.host_judge.specs.Inside.Placed.{HasWindowsOf}
 use Rattle.host_judge.specs.Traces.{state_at, told_at}
 use Rattle.host_judge.specs.declared.tracker.Tracker.{Tracker}
 use Rattle.host_judge.proofs.MarkLemmas.{state_at-before, state_at-later, told_at-before, told_at-later}
@@ -49,7 +49,7 @@ settled_at marks old new to is on =
 pub tracked_begun : (tracker : Tracker) → tracker.state ≡ None → tracker.since_ns ≡ 0 → tracker.cpu ≡ None
     → tracker.times.run_ns ≡ 0 → tracker.times.wait_ns ≡ 0 → tracker.times.block_ns ≡ 0
     → tracker.waits.current ≡ None → tracker.waits.longest ≡ None → tracker.waits.late ≡ 0
-    → ((course : StateCourse) → HasWindows course 0 tracker.windows) → IsTracked [] tracker
+    → ((course : StateCourse) → HasWindowsOf course 0 tracker.windows) → IsTracked [] tracker
 tracked_begun tracker state since cpu run wait block current longest late windows = record {
   state = λ t low. sym state;
   cpu = λ t low. sym cpu;

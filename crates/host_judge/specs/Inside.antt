@@ -1,6 +1,7 @@
 pub mod Begun
 pub mod Clashed
 pub mod Judged
+pub mod Placed
 pub mod Readings
 pub mod Reported
 pub mod Settled

@@ -3,6 +3,7 @@ pub mod Courses
 pub mod Faults
 pub mod Inside
 pub mod Judgements
+pub mod Owed
 pub mod Reports
 pub mod Traces
 pub mod Waits

@@ -15,6 +15,7 @@ use crate::clashes::Clashes;
 use crate::counts::no_lines;
 use crate::fault::JudgeFault;
 use crate::judge::Judge;
+use crate::owed::Owed;
 use crate::reading::Reading;
 use crate::report::Report;
 use crate::reports::{latency_sold, reports_of};
@@ -28,7 +29,8 @@ use vcpu_names::Names;
 const PIECE: usize = 65_536;
 
 /// Reads the trace of a host of at most 256 vCPUs to its end, in one pass, and tells of it by the definitions of
-/// `specs/Reports.antt`. Shares are those of windows of `window_ns` ns.
+/// `specs/Reports.antt`. Shares are those of windows that hold `window_ns` ns of running and waiting. `owed` has for each
+/// vCPU what it is owed of a window, or none where it is owed nothing.
 ///
 /// `BadLine` comes where a line says nothing, and names the first. The memory that is taken doesn't grow with the
 /// trace, but with its longest line and with how often vCPUs run within a window.
@@ -36,11 +38,13 @@ pub fn judge_trace<S: Source>(
     alloc: Global,
     source: &mut S,
     vcpus: &[Vcpu],
+    owed: &[Option<Owed>],
     window_ns: u64,
 ) -> Result<Report, JudgeFault>
     requires many { length vcpus.now ≤ MAX_VCPUS }
+    requires owed { length owed.now ≡ length vcpus.now }
     requires window { 0 < window_ns }
-    ensures { JudgesTrace (S.state source.old) (S.state source.new) vcpus.now window_ns result }
+    ensures { JudgesTrace (S.state source.old) (S.state source.new) vcpus.now owed.now window_ns result }
 {
     let Ok(mut reading) = begin(alloc, vcpus, window_ns) else {
         return Err(JudgeFault::NoMemory);
@@ -57,7 +61,7 @@ pub fn judge_trace<S: Source>(
                     return Err(fault);
                 }
             }
-            Got::End => return finish(alloc, reading, &held, vcpus, window_ns),
+            Got::End => return finish(alloc, reading, &held, vcpus, owed, window_ns),
             Got::Failed => return Err(JudgeFault::ReadFault),
         }
     }
@@ -110,13 +114,15 @@ fn finish(
     mut reading: Reading<'_>,
     held: &[u8],
     vcpus: &[Vcpu],
+    owed: &[Option<Owed>],
     window_ns: u64,
 ) -> Result<Report, JudgeFault>
+    requires owed { length owed.now ≡ length vcpus.now }
     requires some { 0 < window_ns }
     requires names { reading.names ≡ names_of vcpus.now }
     requires terms { map terms_of reading.judge.trackers.items ≡ map (sold_terms window_ns) vcpus.now }
     ensures told { IfOk result (λ report. (bytes : List ℕ) → HasReadBytes bytes held.now reading.entry
-        → IsJudgementOf window_ns vcpus.now bytes report) }
+        → IsJudgementOf window_ns vcpus.now owed.now bytes report) }
     ensures fault { IfErr result (λ fault. (bytes : List ℕ) → HasReadBytes bytes held.now reading.entry
         → IsFaultIn (names_of vcpus.now) (lines_of bytes) fault) }
 {
@@ -124,7 +130,7 @@ fn finish(
         return Err(fault);
     }
     let judge = reading.judge;
-    match reports_of(alloc, judge.trackers, vcpus, judge.end_ns, window_ns) {
+    match reports_of(alloc, judge.trackers, vcpus, owed, judge.end_ns, window_ns) {
         Ok(vcpus) => Ok(Report {
             end_ns: judge.end_ns,
             window_ns,

@@ -5,16 +5,22 @@ ghost use Rattle.host_judge.specs.Inside.Windowed.{lesser_of};
 #[derive(Clone, Copy)]
 pub(crate) struct Least {
     pub(crate) run_ns: u64,
+    // for how long the vCPU had run and waited when the window began
+    pub(crate) begin_ns: u64,
+    // when it began
     pub(crate) at_ns: u64,
 }
 
-// The lesser of the least and a window that begins at this time.
-pub(crate) fn lesser(least: Option<Least>, run_ns: u64, at_ns: u64) -> Option<Least>
-    ensures { result ≡ lesser_of least run_ns at_ns }
+// The lesser of the least and a window.
+pub(crate) fn lesser(least: Option<Least>, window: &Least) -> Option<Least>
+    ensures { result ≡ lesser_of least window.now }
 {
-    let window = Least { run_ns, at_ns };
     match least {
-        Some(held) => Some(if run_ns < held.run_ns { window } else { held }),
-        None => Some(window),
+        Some(held) => Some(if window.run_ns < held.run_ns {
+            *window
+        } else {
+            held
+        }),
+        None => Some(*window),
     }
 }

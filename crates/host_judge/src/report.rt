@@ -8,7 +8,7 @@ pub struct LongestWait {
     pub cpu: Option<u32>,
 }
 
-/// The least share of a CPU that a vCPU had in a window of time throughout which it was runnable.
+/// The least share of a CPU that a vCPU had in a window of running and waiting.
 #[derive(Clone, Copy, Debug, PartialEq, Eq)]
 pub struct LeastShare {
     /// In parts per million, rounded down.
@@ -34,11 +34,16 @@ pub struct VcpuReport {
     pub longest: Option<LongestWait>,
     /// How many of its waits were longer than its latency, and none where it has no reservation.
     pub late: Option<u64>,
-    /// None where no window lies in the trace throughout which it was runnable.
+    /// None where the trace holds no window of its running and waiting.
     pub least: Option<LeastShare>,
-    /// Whether it got what was promised: each wait is within its latency, and each window throughout which it was
-    /// runnable has its share. What has no reservation has no promise that could be broken.
-    pub kept: bool,
+    /// The share of a window that it is owed, in parts per million and rounded down; none where it is owed nothing.
+    pub owed_ppm: Option<u32>,
+    /// Whether each wait is within its latency; none where that isn't judged, because the trace says nothing of it. What
+    /// has no reservation has no promise that could be broken.
+    pub waits_kept: Option<bool>,
+    /// Whether it ran in each window for what it is owed; none where that isn't judged, because the trace holds no
+    /// window of its running and waiting, or nothing of so short a window is owed.
+    pub share_kept: Option<bool>,
 }
 
 /// What is reported of a host by its trace.
@@ -46,7 +51,7 @@ pub struct VcpuReport {
 pub struct Report {
     /// The time of the last line, which ends the trace.
     pub end_ns: u64,
-    /// How long each window is in which shares are looked at.
+    /// How much running and waiting each window holds in which shares are looked at.
     pub window_ns: u64,
     /// The vCPUs by number.
     pub vcpus: Vec<VcpuReport>,

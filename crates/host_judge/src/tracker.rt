@@ -20,7 +20,6 @@ pub(crate) struct Tracker {
     ghost times_fit: { times.run_ns + times.wait_ns + times.block_ns ≤ since_ns },
     ghost wait_began: { ForSome waits.current (λ begun. begun.at_ns < since_ns) },
     ghost late_fit: { waits.late ≤ since_ns },
-    ghost opened: { windows.open_ns ≤ since_ns },
 }
 
 impl Tracker {
@@ -75,7 +74,10 @@ impl Tracker {
         if from == to {
             return Ok(());
         }
-        self.windows.go_on(self.state, from, to, self.times.run_ns)?;
+        let ran = self.times.run_ns;
+        let runnable = ran + self.times.wait_ns;
+        self.windows
+            .go_on(self.state, from, to - from, runnable, ran)?;
         let times = times_behind(&self.times, self.state, from, to);
         let waits = waits_behind(&self.waits, self.state, from, to, self.cpu);
         self.times = times;

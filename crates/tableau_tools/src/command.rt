@@ -269,7 +269,7 @@ const EXPORT: Entry = Entry {
 // What `judge` takes.
 const JUDGE: Entry = Entry {
     name: "judge",
-    about: "Writes whether a host kept its promises, by a trace of what ran; ends with 1 where it didn't, 2 for a fault",
+    about: "Writes whether a host kept its promises, by a trace of what ran; ends with 1 where it didn't, 2 for a fault, 3 where not all was judged",
     words: &[
         Word {
             name: "HOST",
@@ -286,7 +286,13 @@ const JUDGE: Entry = Entry {
             name: "window",
             kind: Kind::Option("MS", ValueParser::Signed(1, MAX_WINDOW_MS)),
             default: &["1000"],
-            help: "Milliseconds of the windows in which shares are counted, 1 to 3600000",
+            help: "Milliseconds of running and waiting in each window in which shares are counted, 1 to 3600000",
+            ..VALUE
+        },
+        Word {
+            name: "plan",
+            kind: Kind::Option("FILE", TEXT),
+            help: "Judges shares by this plan of the host, which owes the cost of each whole period that a window holds",
             ..VALUE
         },
         JSON,

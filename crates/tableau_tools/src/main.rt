@@ -15,12 +15,16 @@ use std::process::ExitCode;
 use tool_hosts::{fit, host, judge, place_vms, sections};
 use tool_input::Fault;
 use tool_views::{chart, diff, report, table};
+use view_judge::Verdict;
 use words::{
     chart_words, diff_words, export, form_words, judge_words, place_words, size_words, table_words,
 };
 
 // The status of `diff` and of `judge` for a fault, since their 1 says that the plans differ, or that a promise was broken.
 const NO_ANSWER: u8 = 2;
+
+// The status of `judge` where no promise was broken, but not all were judged.
+const UNJUDGED: u8 = 3;
 
 // The status of `fit` where the host has no plan, as of `tableau plan`, and of `place` where VMs are left over.
 const NO_PLAN: u8 = 3;
@@ -131,9 +135,13 @@ fn differs(rt: &HostRuntime, matches: &ArgMatches<'_>) -> Result<u8, Fault> {
     Ok(u8::from(diff(rt, &diff_words(matches, form))?))
 }
 
-// Does `judge`, and gives its status: 1 where a promise was broken.
+// Does `judge`, and gives its status: 1 where a promise was broken, and 3 where none was but not all were judged.
 fn judged(rt: &HostRuntime, matches: &ArgMatches<'_>) -> Result<u8, Fault> {
-    Ok(u8::from(!judge(rt, &judge_words(matches))?))
+    Ok(match judge(rt, &judge_words(matches))? {
+        Verdict::Kept => 0,
+        Verdict::Broken => 1,
+        Verdict::Unjudged(_) => UNJUDGED,
+    })
 }
 
 // The status of `fit` and `place` by what they answer.

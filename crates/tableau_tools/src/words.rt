@@ -117,6 +117,7 @@ pub(crate) fn judge_words<'w>(matches: &'w ArgMatches<'_>) -> JudgeWords<'w> {
     JudgeWords {
         host: matches.get_str("HOST"),
         trace: matches.get_str("TRACE"),
+        plan: matches.get_str("plan"),
         window_ms: matches.get_one::<u32>("window"),
         is_json: matches.get_flag("json"),
     }

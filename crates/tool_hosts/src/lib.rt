@@ -16,6 +16,7 @@ mod judgements;
 mod lines;
 mod map;
 mod place;
+mod promises;
 mod remedy;
 mod vms;
 

@@ -167,6 +167,11 @@ pub enum Fault {
         place: String,
         fault: Refusal,
     },
+    #[error("{place}the plan has no vcpu {name}, which the host admits; is it this host's?")]
+    NotInPlan {
+        place: String,
+        name: String,
+    },
     #[error("{place}line {line} of the map isn't NAME GUEST NUMBER, as: mail web 0, or names a vCPU again: '{text}'")]
     BadMapLine {
         place: String,

@@ -1,6 +1,6 @@
 -- The cells of the tables of a judgement: numbers, or a dash where there is none.
-use Rattle.std.specs.Prelude.{ℕ, List, codes, Option, Some, None}
-use Rattle.view_cells.specs.Cells.{count_cell, millis_cell, percent_cell, right}
+use Rattle.std.specs.Prelude.{ℕ, Bool, List, codes, Option, Some, None}
+use Rattle.view_cells.specs.Cells.{count_cell, millis_cell, percent_cell, right, yes_or_no}
 use Rattle.tab_core.specs.declared.reservation.Reservation.{Reservation}
 use Rattle.host_judge.specs.declared.report.LeastShare.{LeastShare}
 use Rattle.host_judge.specs.declared.report.LongestWait.{LongestWait}
@@ -9,6 +9,16 @@ use Rattle.host_judge.specs.declared.report.LongestWait.{LongestWait}
 abbrev pub judged_asked_cell : Option Reservation → List ℕ
 judged_asked_cell None = right 8 (codes "-")
 judged_asked_cell (Some r) = percent_cell 3 r.share_ppm
+
+-- the share of a window that a vCPU is owed, in percent, or a dash
+abbrev pub owed_cell : Option ℕ → List ℕ
+owed_cell None = right 8 (codes "-")
+owed_cell (Some ppm) = percent_cell 3 ppm
+
+-- whether a promise was kept, or that it wasn't judged
+abbrev pub kept_cell : Option Bool → List ℕ
+kept_cell None = right 10 (codes "not judged")
+kept_cell (Some kept) = right 10 (yes_or_no kept)
 
 -- the latency that a vCPU was promised, in milliseconds, or a dash
 abbrev pub judged_promised_cell : Option Reservation → List ℕ

@@ -7,8 +7,10 @@ use Rattle.host_judge.specs.declared.report.LeastShare.{LeastShare}
 use Rattle.host_judge.specs.declared.report.LongestWait.{LongestWait}
 use Rattle.host_judge.specs.declared.report.Report.{Report}
 use Rattle.host_judge.specs.declared.report.VcpuReport.{VcpuReport}
-use Rattle.view_cells.specs.CellTexts.{comma_before, truth_text}
-use Rattle.view_judge.specs.Verdicts.{are_promises_kept}
+use Rattle.view_cells.specs.CellTexts.{comma_before}
+use Rattle.view_judge.specs.Verdicts.{both_kept, unjudged_in, verdict_of}
+use Rattle.view_judge.specs.declared.said.Verdict.{Verdict}
+use Rattle.view_judge.specs.declared.said.Verdict.TheVariants.{Broken, Kept, Unjudged}
 
 -- ---- the members of a vCPU's object
 
@@ -47,15 +49,35 @@ abbrev pub least_text : Option LeastShare → List ℕ
 least_text None = codes "\"least_share_ppm\":null,\"least_share_at_ns\":null,"
 least_text (Some least) = least_share_json least
 
--- the member of whether all was kept, which ends a vCPU's object
-abbrev pub kept_text : Bool → List ℕ
-kept_text true = codes "\"kept\":true}"
-kept_text false = codes "\"kept\":false}"
+-- the member of the share of a window that is owed
+unfoldable pub owed_share_json : ℕ → List ℕ
+owed_share_json ppm = codes "\"owed_share_ppm\":" ++ (decimal ppm ++ codes ",")
+
+-- the member of the share of a window that is owed, which is null where nothing is
+abbrev pub owed_text : Option ℕ → List ℕ
+owed_text None = codes "\"owed_share_ppm\":null,"
+owed_text (Some ppm) = owed_share_json ppm
+
+-- an answer, which is null where nothing was judged
+abbrev pub answer_text : Option Bool → List ℕ
+answer_text None = codes "null"
+answer_text (Some true) = codes "true"
+answer_text (Some false) = codes "false"
+
+-- the members of whether the share, the waits and both were as promised, which end a vCPU's object
+unfoldable pub answers_json : List ℕ → List ℕ → List ℕ → List ℕ
+answers_json share waits kept = codes "\"share_kept\":" ++ (share ++ (codes ",\"waits_kept\":" ++ (waits
+    ++ (codes ",\"kept\":" ++ (kept ++ codes "}")))))
+
+-- these members of a vCPU
+abbrev pub answers_text : VcpuReport → List ℕ
+answers_text report = answers_json (answer_text report.share_kept) (answer_text report.waits_kept)
+    (answer_text (both_kept report.waits_kept report.share_kept))
 
 -- the object of the vCPU of this name, of which this is reported
 abbrev pub vcpu_object : List ℕ → VcpuReport → List ℕ
 vcpu_object name report = times_text name report ++ (longest_text report.longest ++ (late_text report.late
-    ++ (least_text report.least ++ kept_text report.kept)))
+    ++ (least_text report.least ++ (owed_text report.owed_ppm ++ answers_text report))))
 
 -- ---- the whole
 
@@ -73,10 +95,17 @@ object_of (Some vcpu) report = said_of vcpu.name report
 abbrev pub entry_text : List Vcpu → List VcpuReport → ℕ → List ℕ
 entry_text vcpus reports v = comma_before v ++ object_of (slice_get vcpus v) (slice_get reports v)
 
--- the members of a whole trace: the length of a window, and whether all was kept
-unfoldable pub judgement_json_begin : ℕ → List ℕ → List ℕ
-judgement_json_begin window kept = codes "{\"form\":1,\"window_ns\":" ++ (decimal window ++ (codes ",\"kept\":"
-    ++ (kept ++ codes ",")))
+-- whether all was kept, which is null where a vCPU wasn't judged
+abbrev pub verdict_json : Verdict → List ℕ
+verdict_json Kept = codes "true"
+verdict_json (Unjudged count) = codes "null"
+verdict_json Broken = codes "false"
+
+-- the members of a whole trace: the length of a window, whether all was kept, and how many vCPUs have a promise that
+-- wasn't judged
+unfoldable pub judgement_json_begin : ℕ → List ℕ → ℕ → List ℕ
+judgement_json_begin window kept unjudged = codes "{\"form\":2,\"window_ns\":" ++ (decimal window
+    ++ (codes ",\"kept\":" ++ (kept ++ (codes ",\"unjudged_vcpus\":" ++ (decimal unjudged ++ codes ",")))))
 
 -- the members of how many lines put two vCPUs on one CPU, put a vCPU on two CPUs, have a time that falls, and are of
 -- a vCPU that the host doesn't have; then what begins the vCPUs
@@ -91,6 +120,6 @@ judgement_json_vcpus vcpus reports = texts_below (entry_text vcpus reports) (len
 
 -- what a judge reports of a host's vCPUs, as JSON
 abbrev pub judgement_json : List Vcpu → Report → List ℕ
-judgement_json vcpus report = judgement_json_begin report.window_ns (truth_text (are_promises_kept report))
-    ++ (line_counts_json report.shared.count report.doubled.count report.falls.count report.unknown.count
+judgement_json vcpus report = judgement_json_begin report.window_ns (verdict_json (verdict_of report))
+    (unjudged_in report.vcpus.items) ++ (line_counts_json report.shared.count report.doubled.count report.falls.count report.unknown.count
     ++ judgement_json_vcpus vcpus report.vcpus.items)

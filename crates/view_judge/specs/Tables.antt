@@ -1,16 +1,18 @@
 -- The tables of what a judge says: how long each vCPU ran and waited beside what it was promised, and what is wrong with
 -- the trace itself.
-use Rattle.std.specs.Prelude.{ℕ, Bool, true, false, ◌++◌, List, [], codes, decimal, length, Option, Some, None, slice_get}
+use Rattle.std.specs.Prelude.{ℕ, ◌==◌, Bool, true, false, if◌then◌else◌, ◌++◌, List, [], codes, decimal, length, Option, Some, None, slice_get}
 use Rattle.tab_core.specs.declared.reservation.Reservation.{Reservation}
 use Rattle.tab_core.specs.declared.vcpu.Vcpu.{Vcpu}
 use Rattle.tab_words.specs.Texts.{texts_below}
-use Rattle.view_cells.specs.Cells.{left, millis_cell, right, width_below, yes_or_no}
+use Rattle.view_cells.specs.Cells.{left, millis_cell, width_below}
 use Rattle.host_judge.specs.declared.report.LineCount.{LineCount}
 use Rattle.host_judge.specs.declared.report.Report.{Report}
 use Rattle.host_judge.specs.declared.report.VcpuReport.{VcpuReport}
 use Rattle.vcpu_names.specs.Names.{names_of}
-use Rattle.view_judge.specs.Cells.{begin_cell, cpu_cell, judged_asked_cell, judged_promised_cell, late_cell, least_cell, longest_cell, window_cell}
-use Rattle.view_judge.specs.Verdicts.{are_promises_kept, is_any_seen}
+use Rattle.view_judge.specs.Cells.{begin_cell, cpu_cell, judged_asked_cell, judged_promised_cell, kept_cell, late_cell, least_cell, longest_cell, owed_cell, window_cell}
+use Rattle.view_judge.specs.Verdicts.{is_any_seen, verdict_of}
+use Rattle.view_judge.specs.declared.said.Verdict.{Verdict}
+use Rattle.view_judge.specs.declared.said.Verdict.TheVariants.{Broken, Kept, Unjudged}
 
 -- what parts a column from the one before
 abbrev pub gap : List ℕ
@@ -21,17 +23,20 @@ gap = codes "  "
 -- the row that names the columns of shares, after names in a column of so many bytes
 unfoldable pub share_head : ℕ → List ℕ
 share_head width = left width (codes "vcpu")
-    ++ codes "       run ms      wait ms     block ms   asked %   least %       from ms\n"
+    ++ codes "       run ms      wait ms     block ms   asked %    owed %   least %       from ms        kept\n"
 
--- how long a vCPU was in each state, the share that it asked for, and its least share of a window with the window's begin
+-- how long a vCPU was in each state, the share that it asked for, what it is owed of a window, its least share of a
+-- window with the window's begin, and whether that is what it is owed
 unfoldable pub share_cells : ℕ → List ℕ → Option Reservation → VcpuReport → List ℕ
 share_cells width name reserved report = left width name
     ++ (gap ++ (millis_cell 7 report.run_ns
     ++ (gap ++ (millis_cell 7 report.wait_ns
     ++ (gap ++ (millis_cell 7 report.block_ns
     ++ (gap ++ (judged_asked_cell reserved
+    ++ (gap ++ (owed_cell report.owed_ppm
     ++ (gap ++ (least_cell report.least
-    ++ (gap ++ (window_cell report.least ++ codes "\n"))))))))))))
+    ++ (gap ++ (window_cell report.least
+    ++ (gap ++ (kept_cell report.share_kept ++ codes "\n"))))))))))))))))
 
 -- the row of a vCPU of which something is said
 abbrev pub share_said : ℕ → Vcpu → Option VcpuReport → List ℕ
@@ -52,10 +57,10 @@ share_row width vcpus reports v = share_row_of width (slice_get vcpus v) (slice_
 -- the row that names the columns of waits, after names in a column of so many bytes
 unfoldable pub wait_head : ℕ → List ℕ
 wait_head width = codes "\n" ++ (left width (codes "vcpu")
-    ++ codes "   longest ms       from ms   cpu  promised ms   late  kept\n")
+    ++ codes "   longest ms       from ms   cpu  promised ms   late        kept\n")
 
 -- the longest wait of a vCPU with its begin and the CPU where it had been, what it was promised, how many waits were
--- longer, and whether it got what it was promised
+-- longer, and whether none was
 unfoldable pub wait_cells : ℕ → List ℕ → Option Reservation → VcpuReport → List ℕ
 wait_cells width name reserved report = left width name
     ++ (gap ++ (longest_cell report.longest
@@ -63,7 +68,7 @@ wait_cells width name reserved report = left width name
     ++ (gap ++ (cpu_cell report.longest
     ++ (gap ++ (judged_promised_cell reserved
     ++ (gap ++ (late_cell report.late
-    ++ (gap ++ (right 4 (yes_or_no report.kept) ++ codes "\n"))))))))))))
+    ++ (gap ++ (kept_cell report.waits_kept ++ codes "\n"))))))))))))
 
 -- the row of a vCPU of which something is said
 abbrev pub wait_said : ℕ → Vcpu → Option VcpuReport → List ℕ
@@ -81,15 +86,37 @@ wait_row width vcpus reports v = wait_row_of width (slice_get vcpus v) (slice_ge
 
 -- ---- the whole
 
--- the word for whether all was kept
-abbrev pub kept_word : Bool → List ℕ
-kept_word true = codes "kept"
-kept_word false = codes "not kept"
+-- the words for whether all was kept
+abbrev pub verdict_words : Verdict → List ℕ
+verdict_words Kept = codes "kept"
+verdict_words (Unjudged count) = codes "kept"
+verdict_words Broken = codes "not kept"
 
 -- when the trace ends, how long a window is, and whether all was kept
 unfoldable pub verdict_text : ℕ → ℕ → List ℕ → List ℕ
 verdict_text end window kept = codes "\ntrace up to " ++ (millis_cell 0 end
-    ++ (codes " ms, in windows of " ++ (millis_cell 0 window ++ (codes " ms: " ++ (kept ++ codes "\n")))))
+    ++ (codes " ms, in windows of " ++ (millis_cell 0 window ++ (codes " ms: " ++ kept))))
+
+-- what is before and after the count of those that weren't judged, which may be one
+abbrev pub shares_of : ℕ → List ℕ
+shares_of count = if count == 1 then codes ", and the share of " else codes ", and the shares of "
+
+abbrev pub were_of : ℕ → List ℕ
+were_of count = if count == 1 then codes " vCPU was not judged\n" else codes " vCPUs were not judged\n"
+
+-- a count between words
+unfoldable pub unjudged_by : List ℕ → ℕ → List ℕ → List ℕ
+unjudged_by shares count were = shares ++ (decimal count ++ were)
+
+-- how many vCPUs weren't judged
+abbrev pub unjudged_text : ℕ → List ℕ
+unjudged_text count = unjudged_by (shares_of count) count (were_of count)
+
+-- what comes after the words for whether all was kept
+abbrev pub verdict_end : Verdict → List ℕ
+verdict_end Kept = codes "\n"
+verdict_end (Unjudged count) = unjudged_text count
+verdict_end Broken = codes "\n"
 
 -- how many lines are of a kind, and the first of them
 unfoldable pub line_text : List ℕ → ℕ → ℕ → List ℕ
@@ -138,13 +165,14 @@ rows_text width vcpus reports = share_head width ++ (texts_below (share_row widt
     ++ (wait_head width ++ texts_below (wait_row width vcpus reports) (length reports)))
 
 -- what is after the tables: the verdict, and what is wrong with the lines of the trace
-abbrev pub judgement_end : Bool → Report → List ℕ
-judgement_end kept report = verdict_text report.end_ns report.window_ns (kept_word kept) ++ lines_text report
+abbrev pub judgement_end : Verdict → Report → List ℕ
+judgement_end verdict report = verdict_text report.end_ns report.window_ns (verdict_words verdict)
+    ++ (verdict_end verdict ++ lines_text report)
 
 -- the tables and the end of a report, with names in a column of so many bytes
-abbrev pub tables_of : ℕ → Bool → List Vcpu → Report → List ℕ
-tables_of width kept vcpus report = rows_text width vcpus report.vcpus.items ++ judgement_end kept report
+abbrev pub tables_of : ℕ → Verdict → List Vcpu → Report → List ℕ
+tables_of width verdict vcpus report = rows_text width vcpus report.vcpus.items ++ judgement_end verdict report
 
 -- what a judge reports of a host's vCPUs, as tables
 abbrev pub tables_text : List Vcpu → Report → List ℕ
-tables_text vcpus report = tables_of (width_below (names_of vcpus) (length vcpus)) (are_promises_kept report) vcpus report
+tables_text vcpus report = tables_of (width_below (names_of vcpus) (length vcpus)) (verdict_of report) vcpus report

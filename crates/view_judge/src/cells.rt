@@ -2,11 +2,11 @@ ghost use Rattle.std.specs.Prelude.{◌≡◌, length};
 ghost use Rattle.view_cells.specs.CellTexts.{cell_text};
 ghost use Rattle.view_cells.specs.Cells.{width_below};
 ghost use Rattle.vcpu_names.specs.Names.{names_of};
-ghost use Rattle.view_judge.specs.Cells.{begin_cell, cpu_cell, judged_asked_cell, judged_promised_cell, late_cell, least_cell, longest_cell, number_cell, window_cell};
+ghost use Rattle.view_judge.specs.Cells.{begin_cell, cpu_cell, judged_asked_cell, judged_promised_cell, kept_cell, late_cell, least_cell, longest_cell, number_cell, owed_cell, window_cell};
 
 use host_judge::{LeastShare, LongestWait};
 use tab_core::{Reservation, Vcpu};
-use view_cells::Cell;
+use view_cells::{Cell, yes_or_no};
 
 // The width of the column of names.
 pub(crate) fn width_of(vcpus: &[Vcpu]) -> usize
@@ -26,6 +26,26 @@ pub(crate) fn asked_cell(reserved: &Option<Reservation>) -> Cell<'static>
     match reserved {
         Some(r) => Cell::Percent(3, u64::from(r.share_ppm)),
         None => Cell::Right(8, b"-"),
+    }
+}
+
+// The share of a window that is owed.
+pub(crate) fn owed_cell(owed_ppm: Option<u32>) -> Cell<'static>
+    ensures { cell_text result ≡ owed_cell owed_ppm }
+{
+    match owed_ppm {
+        Some(ppm) => Cell::Percent(3, u64::from(ppm)),
+        None => Cell::Right(8, b"-"),
+    }
+}
+
+// Whether a promise was kept, or that it wasn't judged.
+pub(crate) fn kept_cell(kept: Option<bool>) -> Cell<'static>
+    ensures { cell_text result ≡ kept_cell kept }
+{
+    match kept {
+        Some(kept) => Cell::Right(10, yes_or_no(kept)),
+        None => Cell::Right(10, b"not judged"),
     }
 }
 

@@ -1,22 +1,23 @@
 ghost use Rattle.std.specs.Prelude.{◌≡◌, length, slice_get};
 ghost use Rattle.tab_io.specs.Sinks.{Writes};
 ghost use Rattle.tab_words.specs.Texts.{texts_below};
-ghost use Rattle.view_cells.specs.CellTexts.{comma_before, truth_text};
-ghost use Rattle.view_judge.specs.Json.{entry_text, judgement_json, judgement_json_begin, judgement_json_vcpus, kept_text, late_text, late_waits_json, least_share_json, least_text, line_counts_json, longest_text, longest_wait_json, object_of, said_of, times_text, vcpu_object};
-ghost use Rattle.view_judge.specs.Verdicts.{are_promises_kept};
+ghost use Rattle.view_cells.specs.CellTexts.{comma_before};
+ghost use Rattle.view_judge.specs.Json.{answer_text, answers_json, answers_text, entry_text, judgement_json, judgement_json_begin, judgement_json_vcpus, late_text, late_waits_json, least_share_json, least_text, line_counts_json, longest_text, longest_wait_json, object_of, owed_share_json, owed_text, said_of, times_text, vcpu_object, verdict_json};
+ghost use Rattle.view_judge.specs.Verdicts.{unjudged_in, verdict_of};
 
-use crate::verdict::is_kept;
+use crate::said::Verdict;
+use crate::verdict::{both_kept, unjudged_in, verdict_of};
 use host_judge::{LeastShare, LongestWait, Report, VcpuReport};
 use tab_core::Vcpu;
 use tab_io::{Sink, WriteFault, write_all};
 use tab_words::{TextPiece, put_pieces};
 
 /// Writes what is said of the vCPUs of a host as JSON, in one line: the length of a window in ns, whether the host kept
-/// its promises, how many lines contradict others or are of a vCPU that the host doesn't have, and an object for each
-/// vCPU in the host's order.
+/// its promises, how many vCPUs have one that wasn't judged, how many lines contradict others or are of a vCPU that the
+/// host doesn't have, and an object for each vCPU in the host's order.
 ///
-/// Times are in ns and shares in parts per million. Where there is no wait, no window or no reservation, there is
-/// null.
+/// Times are in ns and shares in parts per million. Where there is no wait, no window or no reservation, or something
+/// wasn't judged, there is null.
 ///
 /// A fault leaves a prefix of the text in the sink. Nothing is settled, and nothing is allocated.
 pub fn write_json<K: Sink>(sink: &mut K, vcpus: &[Vcpu], report: &Report) -> Result<(), WriteFault>
@@ -51,30 +52,47 @@ fn put_objects<K: Sink>(
     write_all(sink, b"]}\n")
 }
 
-fn truth_text(truth: bool) -> &'static [u8]
-    ensures { result.now ≡ truth_text truth }
+fn verdict_json(verdict: Verdict) -> &'static [u8]
+    ensures { result.now ≡ verdict_json verdict }
 {
-    if truth { b"true" } else { b"false" }
+    match verdict {
+        Verdict::Kept => b"true",
+        Verdict::Unjudged(_) => b"null",
+        Verdict::Broken => b"false",
+    }
 }
 
 fn put_begin<K: Sink>(sink: &mut K, report: &Report) -> Result<(), WriteFault>
     ensures { Writes (K.state sink.old) (K.state sink.new)
-        (judgement_json_begin report.now.window_ns (truth_text (are_promises_kept report.now))) result }
+        (judgement_json_begin report.now.window_ns (verdict_json (verdict_of report.now))
+        (unjudged_in report.now.vcpus.items)) result }
 {
-    put_window(sink, report.window_ns, truth_text(is_kept(report)))
+    put_window(
+        sink,
+        report.window_ns,
+        verdict_json(verdict_of(report)),
+        unjudged_in(&report.vcpus),
+    )
 }
 
 #[tactic(auto, unfolding(crate::specs::Json::judgement_json_begin))]
-fn put_window<K: Sink>(sink: &mut K, window_ns: u64, kept: &[u8]) -> Result<(), WriteFault>
-    ensures { Writes (K.state sink.old) (K.state sink.new) (judgement_json_begin window_ns kept.now) result }
+fn put_window<K: Sink>(
+    sink: &mut K,
+    window_ns: u64,
+    kept: &[u8],
+    unjudged: u64,
+) -> Result<(), WriteFault>
+    ensures { Writes (K.state sink.old) (K.state sink.new) (judgement_json_begin window_ns kept.now unjudged) result }
 {
     put_pieces(
         sink,
         &[
-            TextPiece::Text(b"{\"form\":1,\"window_ns\":"),
+            TextPiece::Text(b"{\"form\":2,\"window_ns\":"),
             TextPiece::Wide(window_ns),
             TextPiece::Text(b",\"kept\":"),
             TextPiece::Text(kept),
+            TextPiece::Text(b",\"unjudged_vcpus\":"),
+            TextPiece::Wide(unjudged),
             TextPiece::Text(b","),
         ],
     )
@@ -180,7 +198,8 @@ fn put_object<K: Sink>(sink: &mut K, name: &[u8], report: &VcpuReport) -> Result
     put_longest(sink, &report.longest)?;
     put_late(sink, report.late)?;
     put_least(sink, &report.least)?;
-    put_kept(sink, report.kept)
+    put_owed(sink, report.owed_ppm)?;
+    put_answers(sink, report)
 }
 
 #[tactic(auto, unfolding(crate::specs::Json::times_text))]
@@ -282,18 +301,69 @@ fn put_share<K: Sink>(sink: &mut K, least: &LeastShare) -> Result<(), WriteFault
     )
 }
 
-fn put_kept<K: Sink>(sink: &mut K, kept: bool) -> Result<(), WriteFault>
-    ensures { Writes (K.state sink.old) (K.state sink.new) (kept_text kept) result }
+fn put_owed<K: Sink>(sink: &mut K, owed_ppm: Option<u32>) -> Result<(), WriteFault>
+    ensures { Writes (K.state sink.old) (K.state sink.new) (owed_text owed_ppm) result }
 {
-    write_all(sink, kept_text(kept))
+    match owed_ppm {
+        Some(ppm) => put_owed_share(sink, ppm),
+        None => write_all(sink, b"\"owed_share_ppm\":null,"),
+    }
 }
 
-fn kept_text(kept: bool) -> &'static [u8]
-    ensures { result.now ≡ kept_text kept }
+#[tactic(auto, unfolding(crate::specs::Json::owed_share_json))]
+fn put_owed_share<K: Sink>(sink: &mut K, ppm: u32) -> Result<(), WriteFault>
+    ensures { Writes (K.state sink.old) (K.state sink.new) (owed_share_json ppm) result }
 {
-    if kept {
-        b"\"kept\":true}"
-    } else {
-        b"\"kept\":false}"
+    put_pieces(
+        sink,
+        &[
+            TextPiece::Text(b"\"owed_share_ppm\":"),
+            TextPiece::Number(ppm),
+            TextPiece::Text(b","),
+        ],
+    )
+}
+
+fn put_answers<K: Sink>(sink: &mut K, report: &VcpuReport) -> Result<(), WriteFault>
+    ensures { Writes (K.state sink.old) (K.state sink.new) (answers_text report.now) result }
+{
+    put_all_answers(
+        sink,
+        answer_text(report.share_kept),
+        answer_text(report.waits_kept),
+        answer_text(both_kept(report.waits_kept, report.share_kept)),
+    )
+}
+
+#[tactic(auto, unfolding(crate::specs::Json::answers_json))]
+fn put_all_answers<'x, K: Sink>(
+    sink: &mut K,
+    share: &'x [u8],
+    waits: &'x [u8],
+    kept: &'x [u8],
+) -> Result<(), WriteFault>
+    ensures { Writes (K.state sink.old) (K.state sink.new) (answers_json share.now waits.now kept.now) result }
+{
+    put_pieces(
+        sink,
+        &[
+            TextPiece::Text(b"\"share_kept\":"),
+            TextPiece::Text(share),
+            TextPiece::Text(b",\"waits_kept\":"),
+            TextPiece::Text(waits),
+            TextPiece::Text(b",\"kept\":"),
+            TextPiece::Text(kept),
+            TextPiece::Text(b"}"),
+        ],
+    )
+}
+
+fn answer_text(answer: Option<bool>) -> &'static [u8]
+    ensures { result.now ≡ answer_text answer }
+{
+    match answer {
+        Some(true) => b"true",
+        Some(false) => b"false",
+        None => b"null",
     }
 }

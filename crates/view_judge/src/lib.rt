@@ -5,9 +5,11 @@
 
 mod cells;
 mod json;
+mod said;
 mod tables;
 mod verdict;
 
 pub use json::write_json;
+pub use said::Verdict;
 pub use tables::write_tables;
-pub use verdict::is_kept;
+pub use verdict::verdict_of;

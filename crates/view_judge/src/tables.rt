@@ -2,25 +2,26 @@ ghost use Rattle.std.specs.Prelude.{◌≡◌, length, slice_get};
 ghost use Rattle.tab_io.specs.Sinks.{Writes};
 ghost use Rattle.tab_words.specs.Texts.{texts_below};
 ghost use Rattle.view_judge.specs.Verdicts.{is_any_seen};
-ghost use Rattle.view_judge.specs.Tables.{doubled_kind, fall_kind, judgement_end, kept_word, line_count_text, line_text, lines_text, rows_text, share_cells, share_head, share_row, share_said, shared_kind, tables_of, tables_text, unknown_kind, unseen_text, verdict_text, wait_cells, wait_head, wait_row, wait_said};
+ghost use Rattle.view_judge.specs.Tables.{doubled_kind, fall_kind, judgement_end, line_count_text, line_text, lines_text, rows_text, share_cells, share_head, share_row, share_said, shared_kind, shares_of, tables_of, tables_text, unjudged_by, unjudged_text, unknown_kind, unseen_text, verdict_end, verdict_text, verdict_words, wait_cells, wait_head, wait_row, wait_said, were_of};
 
 use crate::cells::{
-    asked_cell, begin_cell, cpu_cell, late_cell, least_cell, longest_cell, promised_cell, width_of,
-    window_cell,
+    asked_cell, begin_cell, cpu_cell, kept_cell, late_cell, least_cell, longest_cell, owed_cell,
+    promised_cell, width_of, window_cell,
 };
-use crate::verdict::{is_any_seen, is_kept};
+use crate::said::Verdict;
+use crate::verdict::{is_any_seen, verdict_of};
 use host_judge::{LineCount, Report, VcpuReport};
 use tab_core::{Reservation, Vcpu};
 use tab_io::{Sink, WriteFault, write_all};
 use tab_words::{TextPiece, put_pieces};
-use view_cells::{Cell, put_cells, yes_or_no};
+use view_cells::{Cell, put_cells};
 
 /// Writes what is said of the vCPUs of a host as tables.
 ///
-/// The first has how long each vCPU ran, waited and was blocked, and its least share of a window beside the share
-/// that it has reserved. The second has its longest wait beside the latency that it was promised, how many waits were
-/// longer, and whether both promises were kept. After them is whether all was kept, and which lines of the trace
-/// can't be. Times are in milliseconds with three digits, rounded down, and shares in percent with four.
+/// The first has how long each vCPU ran, waited and was blocked, its least share of a window beside the share that it
+/// has reserved and what it is owed of a window, and whether it had that. The second has its longest wait beside the
+/// latency that it was promised, how many waits were longer, and whether none was. After them is whether all was kept,
+/// how many vCPUs weren't judged, and which lines of the trace can't be. Times are in milliseconds with three digits, rounded down, and shares in percent with four.
 ///
 /// A fault leaves a prefix of the text in the sink. Nothing is settled, and nothing is allocated.
 pub fn write_tables<K: Sink>(
@@ -30,20 +31,20 @@ pub fn write_tables<K: Sink>(
 ) -> Result<(), WriteFault>
     ensures { Writes (K.state sink.old) (K.state sink.new) (tables_text vcpus.now report.now) result }
 {
-    put_tables(sink, width_of(vcpus), is_kept(report), vcpus, report)
+    put_tables(sink, width_of(vcpus), verdict_of(report), vcpus, report)
 }
 
 fn put_tables<K: Sink>(
     sink: &mut K,
     width: usize,
-    kept: bool,
+    verdict: Verdict,
     vcpus: &[Vcpu],
     report: &Report,
 ) -> Result<(), WriteFault>
-    ensures { Writes (K.state sink.old) (K.state sink.new) (tables_of width kept vcpus.now report.now) result }
+    ensures { Writes (K.state sink.old) (K.state sink.new) (tables_of width verdict vcpus.now report.now) result }
 {
     put_rows(sink, width, vcpus, &report.vcpus)?;
-    put_end(sink, kept, report)
+    put_end(sink, verdict, report)
 }
 
 // Writes both tables.
@@ -62,10 +63,11 @@ fn put_rows<K: Sink>(
 }
 
 // Writes what is after them.
-fn put_end<K: Sink>(sink: &mut K, kept: bool, report: &Report) -> Result<(), WriteFault>
-    ensures { Writes (K.state sink.old) (K.state sink.new) (judgement_end kept report.now) result }
+fn put_end<K: Sink>(sink: &mut K, verdict: Verdict, report: &Report) -> Result<(), WriteFault>
+    ensures { Writes (K.state sink.old) (K.state sink.new) (judgement_end verdict report.now) result }
 {
-    put_verdict(sink, report.end_ns, report.window_ns, kept)?;
+    put_verdict(sink, report.end_ns, report.window_ns, verdict)?;
+    put_verdict_end(sink, verdict)?;
     put_lines(sink, report)
 }
 
@@ -78,7 +80,7 @@ fn put_share_head<K: Sink>(sink: &mut K, width: usize) -> Result<(), WriteFault>
         &[
             Cell::Left(width, b"vcpu"),
             Cell::Text(
-                b"       run ms      wait ms     block ms   asked %   least %       from ms\n",
+                b"       run ms      wait ms     block ms   asked %    owed %   least %       from ms        kept\n",
             ),
         ],
     )
@@ -93,7 +95,7 @@ fn put_wait_head<K: Sink>(sink: &mut K, width: usize) -> Result<(), WriteFault>
         &[
             Cell::Text(b"\n"),
             Cell::Left(width, b"vcpu"),
-            Cell::Text(b"   longest ms       from ms   cpu  promised ms   late  kept\n"),
+            Cell::Text(b"   longest ms       from ms   cpu  promised ms   late        kept\n"),
         ],
     )
 }
@@ -165,9 +167,13 @@ fn put_share_cells<K: Sink>(
             Cell::Text(b"  "),
             asked_cell(reserved),
             Cell::Text(b"  "),
+            owed_cell(report.owed_ppm),
+            Cell::Text(b"  "),
             least_cell(&report.least),
             Cell::Text(b"  "),
             window_cell(&report.least),
+            Cell::Text(b"  "),
+            kept_cell(report.share_kept),
             Cell::Text(b"\n"),
         ],
     )
@@ -242,7 +248,7 @@ fn put_wait_cells<K: Sink>(
             Cell::Text(b"  "),
             late_cell(report.late),
             Cell::Text(b"  "),
-            Cell::Right(4, yes_or_no(report.kept)),
+            kept_cell(report.waits_kept),
             Cell::Text(b"\n"),
         ],
     )
@@ -253,11 +259,12 @@ fn put_verdict<K: Sink>(
     sink: &mut K,
     end_ns: u64,
     window_ns: u64,
-    kept: bool,
+    verdict: Verdict,
 ) -> Result<(), WriteFault>
-    ensures { Writes (K.state sink.old) (K.state sink.new) (verdict_text end_ns window_ns (kept_word kept)) result }
+    ensures { Writes (K.state sink.old) (K.state sink.new)
+        (verdict_text end_ns window_ns (verdict_words verdict)) result }
 {
-    put_judged(sink, end_ns, window_ns, kept_word(kept))
+    put_judged(sink, end_ns, window_ns, verdict_words(verdict))
 }
 
 #[tactic(auto, unfolding(crate::specs::Tables::verdict_text))]
@@ -278,15 +285,74 @@ fn put_judged<K: Sink>(
             Cell::Millis(0, window_ns),
             Cell::Text(b" ms: "),
             Cell::Text(kept),
-            Cell::Text(b"\n"),
         ],
     )
 }
 
-fn kept_word(kept: bool) -> &'static [u8]
-    ensures { result.now ≡ kept_word kept }
+fn verdict_words(verdict: Verdict) -> &'static [u8]
+    ensures { result.now ≡ verdict_words verdict }
 {
-    if kept { b"kept" } else { b"not kept" }
+    match verdict {
+        Verdict::Kept => b"kept",
+        Verdict::Unjudged(_) => b"kept",
+        Verdict::Broken => b"not kept",
+    }
+}
+
+// Writes what comes after these words.
+fn put_verdict_end<K: Sink>(sink: &mut K, verdict: Verdict) -> Result<(), WriteFault>
+    ensures { Writes (K.state sink.old) (K.state sink.new) (verdict_end verdict) result }
+{
+    match verdict {
+        Verdict::Kept => write_all(sink, b"\n"),
+        Verdict::Unjudged(count) => put_unjudged(sink, count),
+        Verdict::Broken => write_all(sink, b"\n"),
+    }
+}
+
+fn put_unjudged<K: Sink>(sink: &mut K, count: u64) -> Result<(), WriteFault>
+    ensures { Writes (K.state sink.old) (K.state sink.new) (unjudged_text count) result }
+{
+    put_unjudged_by(sink, shares_of(count), count, were_of(count))
+}
+
+#[tactic(auto, unfolding(crate::specs::Tables::unjudged_by))]
+fn put_unjudged_by<'x, K: Sink>(
+    sink: &mut K,
+    shares: &'x [u8],
+    count: u64,
+    were: &'x [u8],
+) -> Result<(), WriteFault>
+    ensures { Writes (K.state sink.old) (K.state sink.new) (unjudged_by shares.now count were.now) result }
+{
+    put_pieces(
+        sink,
+        &[
+            TextPiece::Text(shares),
+            TextPiece::Wide(count),
+            TextPiece::Text(were),
+        ],
+    )
+}
+
+fn shares_of(count: u64) -> &'static [u8]
+    ensures { result.now ≡ shares_of count }
+{
+    if count == 1 {
+        b", and the share of "
+    } else {
+        b", and the shares of "
+    }
+}
+
+fn were_of(count: u64) -> &'static [u8]
+    ensures { result.now ≡ were_of count }
+{
+    if count == 1 {
+        b" vCPU was not judged\n"
+    } else {
+        b" vCPUs were not judged\n"
+    }
 }
 
 // Writes what is wrong with the trace itself.

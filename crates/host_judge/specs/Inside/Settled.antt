@@ -3,7 +3,7 @@ use Rattle.std.specs.Prelude.{◌≡◌, ℕ, ◌+◌, ◌<◌, ◌≤◌, nat_l
 use Rattle.host_trace.specs.declared.mark.Mark.{Mark}
 use Rattle.host_trace.specs.declared.mark.State.TheVariants as state
 use Rattle.host_judge.specs.Courses.{IsSteady, StateCourse, time_before}
-use Rattle.host_judge.specs.Inside.Windowed.{HasWindows}
+use Rattle.host_judge.specs.Inside.Placed.{HasWindowsOf}
 use Rattle.host_judge.specs.Traces.{state_at, told_at}
 use Rattle.host_judge.specs.Waits.{IsLongest, late_before, waited_until}
 use Rattle.host_judge.specs.declared.report.LongestWait.{LongestWait}
@@ -51,7 +51,7 @@ pub record HasSettled (course : StateCourse) (told : ℕ → Option ℕ) (time :
     (windows : Windows) : Type 0 where
   pub in_states : HasTimes course time times
   pub in_waits : HasWaits course told time waits
-  pub in_windows : HasWindows course time windows
+  pub in_windows : HasWindowsOf course time windows
 
 -- two functions of time agree before a time
 pub record AgreeBefore {X : Type 0} (time : ℕ) (one two : ℕ → X) : Type 0 where

@@ -12,7 +12,7 @@ returns-in-Err-clause-fault c = λ bytes has.
 
 pub returns-in-Ok-clause-told : goal.returns-in-Ok-clause-told
 returns-in-Ok-clause-told c = λ bytes has.
-    told_of c.args.window_ns c.args.vcpus.now bytes c.take_lines.new.self _
+    told_of c.args.window_ns c.args.vcpus.now c.args.owed.now bytes c.take_lines.new.self _
     (rest_read bytes c.args.held.now c.args.reading c.take_lines.new.self has c.in_default.ensures.read)
     (c.in_default.ensures.names ∙ c.requires.names) (c.in_default.ensures.terms ∙ c.requires.terms)
     c.in-Ok.ensures.each c.in-Ok.ensures.many refl refl refl refl refl refl

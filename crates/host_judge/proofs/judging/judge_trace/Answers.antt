@@ -6,19 +6,19 @@ loop-init g c = none_come _ _ _ _ _ c.new-held.ensures.items c.in-Ok.ensures
 
 pub returns-in-Err : goal.returns-in-Err
 returns-in-Err g c =
-    piece_fault _ _ _ _ _ _ _ c.in-Bytes.count _ c.read.new.into _ c.loop.invariant c.in-Bytes.ensures.gave
+    piece_fault _ _ _ _ _ _ _ _ c.in-Bytes.count _ c.read.new.into _ c.loop.invariant c.in-Bytes.ensures.gave
     c.in-Bytes.ensures.later c.in-Err.ensures.fault
 
 pub returns-in-End : goal.returns-in-End
 returns-in-End g c =
     let told = rw c.deref.ensures.value at c.finish.ensures.told in
     let bad = rw c.deref.ensures.value at c.finish.ensures.fault in
-    ended_come _ _ _ _ _ _ c.read.new.into c.loop.reading _ c.finish.result c.loop.invariant c.in-End.ensures.gave
+    ended_come _ _ _ _ _ _ _ c.read.new.into c.loop.reading _ c.finish.result c.loop.invariant c.in-End.ensures.gave
     c.in-End.ensures.later (in_both c.finish.result _ _ told bad)
 
 pub returns-in-Failed : goal.returns-in-Failed
 returns-in-Failed g c =
-    failed_come _ _ _ _ _ _ c.read.new.into _ _ c.loop.invariant c.in-Failed.ensures.gave c.in-Failed.ensures.later
+    failed_come _ _ _ _ _ _ _ c.read.new.into _ _ c.loop.invariant c.in-Failed.ensures.gave c.in-Failed.ensures.later
 
 pub loop-preserved : goal.loop-preserved
 loop-preserved g c =

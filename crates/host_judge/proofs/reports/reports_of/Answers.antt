@@ -31,13 +31,20 @@ loop-tracker-preserved c =
     let at : c.index-vcpus-len.result ≡ get_or c.args.vcpus.now (length c.loop-tracker.yielded) c.index-vcpus-len.result =
     c.index-vcpus-len.is
     ∙ ap (λ n. get_or c.args.vcpus.now n c.index-vcpus-len.result) size in
+    let second : c.len-in-loop-tracker.result ≡ length c.loop-tracker.yielded =
+    omega (arith, c.len-in-loop-tracker.ensures, c.loop-tracker.invariant.many) in
+    let owes : c.index-owed-len.result ≡ get_or c.args.owed.now (length c.loop-tracker.yielded) c.index-owed-len.result =
+    c.index-owed-len.is
+    ∙ ap (λ n. get_or c.args.owed.now n c.index-owed-len.result) second in
     let reports = length_push c.loop-tracker.reports.items c.in_ok-one.one in
     let yielded = length_push c.loop-tracker.yielded c.in-Some.tracker in
     rw pushed (record {
       many = omega (arith, reports, yielded, c.loop-tracker.invariant.many);
       whole = whole ∙ sym (append_assoc c.loop-tracker.yielded (c.in-Some.tracker ∷ []) c.next.new.self.rest.items);
-      each = reports_more c.args.window_ns c.args.trackers.items c.args.vcpus.now c.args.end_ns
+      each = reports_more c.args.window_ns c.args.trackers.items c.args.vcpus.now c.args.owed.now c.args.end_ns
           c.loop-tracker.reports.items (length c.loop-tracker.yielded) c.in-Some.tracker c.index-vcpus-len.result
+          c.index-owed-len.result
           c.in_ok-one.one c.loop-tracker.invariant.many c.loop-tracker.invariant.each next.1
-          (omega (arith, long, next.1)) next.0 at c.in_ok-one.ensures;
+          (omega (arith, long, next.1)) (omega (arith, long, next.1, c.requires.owed)) next.0 at owes
+          c.in_ok-one.ensures;
     })

@@ -9,5 +9,5 @@ returns g c = rw (
   ← c.cpu_cell.ensures,
   ← c.promised_cell.ensures,
   ← c.late_cell.ensures,
-  ← c.yes_or_no.ensures,
+  ← c.kept_cell.ensures,
 ) c.put_cells.ensures

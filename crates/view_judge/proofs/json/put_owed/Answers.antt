@@ -1,0 +1,4 @@
+use Rattle.view_judge.proofs.json.put_owed.Goals as goal
+
+pub returns-in-None : goal.returns-in-None
+returns-in-None g c = rw c.in-None.is c.write_all.ensures
