@@ -11,21 +11,20 @@ use crate::patience::Patience;
 use crate::phase::Phase;
 use crate::player::Player;
 use crate::stepper::{CoreStepper, Site, Stepper};
+use crate::widths::Widths;
 use crate::working::{work_all, work_cores};
 use round_words::RoundSeat;
 use std::sync::atomic::AtomicBool;
 use std::thread::{Threads, available_parallelism, join_mut};
-use std::time::{Clock, Duration};
-
-// For how many microseconds each thread of the first phase may wait whatever its work. Each further phase has half of it.
-const FREE: u64 = 10_000;
+use std::time::{Clock, Duration, Instant};
 
 /// The cores and the controller step side by side for as long as it pays, in phases: by a worker for each core and one thread for the
-/// controller, then by as many threads as there are processors, then by half as many, down to two. All seats meet after each.
+/// controller, by as many threads as there are processors, by half as many, down to one. All seats meet after each phase.
 ///
-/// A thread gives up once it has waited for longer than its work and the phase allow (`Phase::allows`), and the others with it. A phase
-/// for which not all threads could be made is the last. `ready` says whether waiting counts yet. What is left is for the caller to
-/// drive. It may wait for the threads that it has started.
+/// A phase ends once a thread has been in it, or has waited, for longer than it allows (`Phase::allows`). Each number of threads is
+/// tried for some milliseconds, and then the fastest goes on, for as long as it is the fastest (`Widths`). A phase for which not
+/// all threads could be made is the last. `ready` says whether time counts yet. What is left is for the caller to drive. It may
+/// wait for the threads that it has started.
 pub fn work_beside<
     R: Threads + Clock + Sync,
     C: CoreStepper + Drop + Send,
@@ -47,21 +46,21 @@ pub fn work_beside<
     ensures actors { SameActors (view_of seat) (view_of result.0) }
     ensures room { vec_capacity result.1 ≡ vec_capacity cores }
 {
-    let processors = processors(rt);
-    let mut threads = cores.len() as u32 + 1;
-    let mut free = FREE;
-    'phases: while threads > 1 {
-        let allowed = Duration::from_micros(free);
-        let phase = Phase::of(threads, processors, free < FREE, allowed, ready);
-        make_phase(rt, site, &phase, threads, &mut seat, &mut cores, &mut lead);
-        threads = fewer(&phase, threads, processors);
-        free /= 2;
+    let mut widths = Widths::of(cores.len() as u32, processors(rt));
+    let mut left = u64::MAX;
+    'phases: while left > 0 {
+        let (before, begun) = (together(&cores), Instant::now(rt).ok());
+        let phase = widths.phase(ready);
+        make_phase(rt, site, &phase, &mut seat, &mut cores, &mut lead);
+        let ticks = together(&cores).saturating_sub(before);
+        let goes_on = widths.go_on(&phase, ticks, since(rt, begun));
+        left = if goes_on { left - 1 } else { 0 };
     }
     site.gate.dealt(1, together(&cores));
     (seat, cores, lead)
 }
 
-// So many threads go on as far as the phase allows.
+// The threads of a phase go on as far as it allows.
 fn make_phase<
     R: Threads + Clock + Sync,
     C: CoreStepper + Drop + Send,
@@ -71,7 +70,6 @@ fn make_phase<
     rt: &R,
     site: &Site<'_, G>,
     phase: &Phase<'_>,
-    threads: u32,
     seat: &mut RoundSeat,
     cores: &mut Vec<Player<C>>,
     lead: &mut Player<L>,
@@ -85,28 +83,10 @@ fn make_phase<
     ensures room { vec_capacity cores.new ≡ vec_capacity cores.old }
 {
     let (board, lag, gate) = (site.board, site.lag, site.gate);
+    let threads = phase.threads();
     gate.dealt(threads, together(cores));
     let site = Site { board, lag, gate };
     spread(&*rt, &site, &*phase, threads, seat, cores, lead);
-}
-
-// How many threads make the next phase: none beside this one where all have ended, or where not all threads could be made; otherwise
-// as many as there are processors, or half as many as now.
-fn fewer(phase: &Phase<'_>, threads: u32, processors: u32) -> u32
-    requires { 1 < threads }
-    ensures { result < threads }
-{
-    if !phase.is_over() || !phase.has_all() {
-        return 1;
-    }
-    if threads <= processors {
-        return threads / 2;
-    }
-    phase
-        .at_work()
-        .saturating_sub(1)
-        .min(processors)
-        .min(threads - 1)
 }
 
 // How far the cores are together, in ticks.
@@ -116,6 +96,14 @@ fn together<C: CoreStepper + Drop>(cores: &[Player<C>]) -> u64 {
         ticks = ticks.saturating_add(u64::from(player.actor.place()));
     }
     ticks
+}
+
+// How long it is since then, or nothing where that isn't known.
+fn since<K: Clock>(clock: &K, begun: Option<Instant>) -> Duration {
+    match begun {
+        Some(begun) => begun.elapsed(clock).unwrap_or(Duration::ZERO),
+        None => Duration::ZERO,
+    }
 }
 
 // How many processors there are, or 1 where that isn't known.

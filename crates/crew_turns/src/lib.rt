@@ -1,5 +1,5 @@
-//! Actors that step by seats of one board: each by a worker in a thread of its own, then by fewer threads, or all of them in turns by
-//! one thread.
+//! Actors that step by seats of one board: each by a worker in a thread of its own, by fewer threads where they get on faster, or all
+//! of them in turns by one thread.
 //!
 //! What an actor is, when it agrees with a view and why it waits is a matter of its kind (`specs/Kinds.antt`): a trait's ghost, with the
 //! laws by which steps of other actors leave it in peace. So one crew serves runs whose plans are known and runs whose plans are made
@@ -18,6 +18,7 @@ mod player;
 mod running;
 mod stepper;
 mod turning;
+mod widths;
 mod working;
 
 pub use beside::work_beside;

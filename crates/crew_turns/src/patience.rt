@@ -7,23 +7,30 @@ use std::time::{Clock, Duration, Instant};
 /// How many turns in a row in which nobody gets on end `drive_all`, and a worker's thread too at the latest.
 pub const PATIENCE: u32 = 10_000_000;
 
-// In how many turns of a wait a thread doesn't give up: some 0.1 ms. It spins, and lets others have its processor after some turns
-// and twice, four times and eight times as many, since they may include the one that it waits for. A yield takes half a microsecond
-// on an idle machine, and a time slice of some 4 ms on a busy one.
+// In how many turns of a wait a thread doesn't ask the clock: some 0.1 ms. It spins, and lets others have its processor after some
+// turns and twice, four times and eight times as many, since they may include the one that it waits for. A yield takes half a
+// microsecond on an idle machine, and a time slice of some 4 ms on a busy one.
 const SPINS: u32 = 1_024;
 
 const FEW_SPINS: u32 = 64;
 
+// A thread that gets on asks the clock once in so many turns, which takes some 50 ns.
+const STRIDE: u32 = 16;
+
+// Of each wait so many microseconds don't count: a shorter one is the price of being side by side.
+const SHORT: u64 = 20;
+
 // For how many microseconds a thread sleeps where it waits for plans that are still being made.
 const NAP: u64 = 100;
 
-/// How long a thread goes on whose actors wait for those of other threads, by the clock: a phase allows so much waiting for so much
-/// work. Waiting counts from the time on when all threads have come and all plans are made.
+/// How long a thread goes on beside others, by the clock and by what the phase allows. Time counts once all threads have come and
+/// all plans are made.
 #[derive(Drop)]
 pub(crate) struct Patience<'a, K: Clock> {
     clock: &'a K,
     phase: &'a Phase<'a>,
-    // How many turns in a row were in vain.
+    // How many turns got on, and how many in a row were in vain since.
+    moved: u32,
     vain: u32,
     // When the time began that counts, and how long the waits since then were.
     begun: Option<Instant>,
@@ -41,6 +48,7 @@ impl<'a, K: Clock> Patience<'a, K> {
         Patience {
             clock,
             phase,
+            moved: 0,
             vain: 0,
             begun: Instant::now(clock).ok(),
             waited: Duration::ZERO,
@@ -52,13 +60,14 @@ impl<'a, K: Clock> Patience<'a, K> {
     /// Whether the thread is to make another turn, after one of which this came. It may wait for a moment before.
     #[inline(always)]
     pub(crate) fn goes_on(&mut self, progress: Progress) -> bool {
-        if progress == Progress::Moved {
-            if self.vain > 0 {
-                self.end_wait();
-            }
-            return true;
+        if progress != Progress::Moved {
+            return self.waits_on(progress);
         }
-        self.waits_on(progress)
+        if self.vain > 0 {
+            self.end_wait();
+        }
+        self.moved = self.moved.wrapping_add(1);
+        self.moved % STRIDE != 0 || self.is_allowed()
     }
 
     // Whether it is to make another turn after one in vain.
@@ -66,13 +75,7 @@ impl<'a, K: Clock> Patience<'a, K> {
     fn waits_on(&mut self, progress: Progress) -> bool {
         match progress {
             Progress::Moved => true,
-            Progress::Waits => {
-                let goes_on = self.waits();
-                if !goes_on {
-                    self.phase.end();
-                }
-                goes_on
-            }
+            Progress::Waits => self.waits(),
             Progress::Stopped => {
                 self.phase.end();
                 false
@@ -88,31 +91,47 @@ impl<'a, K: Clock> Patience<'a, K> {
     #[inline(never)]
     fn end_wait(&mut self) {
         self.vain = 0;
-        let Some(since) = self.since else {
-            return;
-        };
-        self.since = None;
-        if let Ok(wait) = since.elapsed(self.clock) {
-            self.waited = self.waited.saturating_add(wait);
+        if self.since.is_some() {
+            if let Ok(now) = Instant::now(self.clock) {
+                self.waited = self.waited_until(now);
+            }
+            self.since = None;
         }
+    }
+
+    // How long its waits were, with the present one until now.
+    fn waited_until(&self, now: Instant) -> Duration {
+        let Some(since) = self.since else {
+            return self.waited;
+        };
+        let wait = now.duration_since(since);
+        self.waited
+            .saturating_add(wait.saturating_sub(Duration::from_micros(SHORT)))
     }
 
     // Waits for a moment, if the thread is to go on.
     fn waits(&mut self) -> bool {
         self.vain = self.vain.saturating_add(1);
-        if self.vain == 1 {
-            if self.phase.is_over() {
-                return false;
-            }
-            if self.phase.is_strict() {
-                self.since = Instant::now(self.clock).ok();
-            }
+        if self.vain == 1 && self.phase.is_over() {
+            return false;
         }
         if self.vain < SPINS {
             self.spin();
             return true;
         }
-        self.vain < PATIENCE && !self.phase.is_over() && self.pays()
+        if self.vain >= PATIENCE {
+            self.phase.end();
+            return false;
+        }
+        if !self.is_allowed() {
+            return false;
+        }
+        if self.phase.is_ready() {
+            yield_now();
+        } else {
+            sleep(self.clock, Duration::from_micros(NAP));
+        }
+        true
     }
 
     // Spins for a moment, or lets others have the processor.
@@ -127,36 +146,38 @@ impl<'a, K: Clock> Patience<'a, K> {
         yield_now();
     }
 
-    // Whether it pays to wait on, by the clock. If so, others had the processor for a moment.
+    // Whether the phase allows the thread to go on, by the clock. If not, the phase is over.
     #[inline(never)]
-    fn pays(&mut self) -> bool {
+    fn is_allowed(&mut self) -> bool {
+        if self.phase.is_over() {
+            return false;
+        }
         let Ok(now) = Instant::now(self.clock) else {
+            self.phase.end();
             return false;
         };
         if !self.phase.is_ready() {
             self.begin(now);
-            sleep(self.clock, Duration::from_micros(NAP));
             return true;
         }
         if !self.sees_all && self.phase.has_all() {
             self.sees_all = true;
             self.begin(now);
         }
-        let since = self.since.unwrap_or(now);
-        self.since = Some(since);
-        let waited = self.waited.saturating_add(now.duration_since(since));
-        let whole = now.duration_since(self.begun.unwrap_or(now));
-        if waited > self.phase.allows(whole.saturating_sub(waited)) {
-            return false;
+        let spent = now.duration_since(self.begun.unwrap_or(now));
+        let goes_on = self.phase.allows(spent, self.waited_until(now));
+        if !goes_on {
+            self.phase.end();
         }
-        yield_now();
-        true
+        goes_on
     }
 
     // The time that counts begins.
     fn begin(&mut self, now: Instant) {
         self.begun = Some(now);
         self.waited = Duration::ZERO;
-        self.since = Some(now);
+        if self.vain > 0 {
+            self.since = Some(now);
+        }
     }
 }

@@ -2,22 +2,22 @@ use std::sync::atomic::Ordering::SeqCst;
 use std::sync::atomic::{AtomicBool, AtomicU32};
 use std::time::Duration;
 
-// A thread of the first phase, on a machine with a processor for each, may wait for this part of its work: there a long wait is one
-// for a thread that another program keeps from its processor.
+// A core's own worker with a processor of its own may wait for this part of its work: there a long wait is one for a thread that
+// another program keeps from its processor.
 const PART: u32 = 2;
 
 /// What the threads of one phase share, beside the board: how many of them have come and how many are done, and whether one of
-/// them has given up, so that the others don't wait for its actors.
+/// them has ended it, so that the others don't wait for its actors.
 ///
 /// Nothing is claimed of it. A run's answer is the same whatever the threads read here.
 #[derive(Drop)]
 pub(crate) struct Phase<'a> {
     threads: u32,
+    // Whether each core has a worker of its own.
+    own: bool,
     processors: u32,
-    // Whether a thread may have several cores.
-    shares: bool,
-    // How long each thread may wait whatever its work.
-    free: Duration,
+    // How long the phase may take, or each thread may wait beside a part of its work.
+    allowed: Duration,
     come: AtomicU32,
     done: AtomicU32,
     over: AtomicBool,
@@ -25,24 +25,35 @@ pub(crate) struct Phase<'a> {
 }
 
 impl<'a> Phase<'a> {
-    /// A phase of so many threads, to which none has come, on so many processors. `ready` says whether waiting counts yet.
+    /// A phase of so many threads, to which none has come, on so many processors. `own` says whether each core has one of them;
+    /// `ready` says whether time counts yet.
     pub(crate) fn of(
         threads: u32,
+        own: bool,
         processors: u32,
-        shares: bool,
-        free: Duration,
+        allowed: Duration,
         ready: &'a AtomicBool,
     ) -> Self {
         Phase {
             threads,
+            own,
             processors,
-            shares,
-            free,
+            allowed,
             come: AtomicU32::new(0),
             done: AtomicU32::new(0),
             over: AtomicBool::new(false),
             ready,
         }
+    }
+
+    /// How many threads make it.
+    pub(crate) fn threads(&self) -> u32 {
+        self.threads
+    }
+
+    /// Whether one thread makes it.
+    pub(crate) fn is_alone(&self) -> bool {
+        self.threads <= 1
     }
 
     /// Another thread has come.
@@ -60,35 +71,30 @@ impl<'a> Phase<'a> {
         self.done.fetch_add(1, SeqCst);
     }
 
-    /// How many threads have something left to do.
-    pub(crate) fn at_work(&self) -> u32 {
-        self.threads.saturating_sub(self.done.load(SeqCst))
+    /// Whether a thread goes on that has been in the phase for so long, and has waited for so long of it. Where each core's worker
+    /// has a processor of its own, and the controller another, only waiting counts: there workers go on to the end. Elsewhere a
+    /// phase ends when its time is over, so that its pace is compared.
+    pub(crate) fn allows(&self, spent: Duration, waited: Duration) -> bool {
+        let left = self.threads.saturating_sub(self.done.load(SeqCst));
+        if !self.own || left > self.processors {
+            return spent <= self.allowed;
+        }
+        let worked = spent.saturating_sub(waited);
+        let part = worked.checked_div(PART).unwrap_or(Duration::ZERO);
+        waited <= self.allowed.saturating_add(part)
     }
 
-    /// Whether short waits count too. They don't where each core's worker has a processor of its own, and the controller
-    /// another: there they are the price of working side by side.
-    pub(crate) fn is_strict(&self) -> bool {
-        self.shares || self.at_work() > self.processors
-    }
-
-    /// How long a thread may have waited that has worked for so long.
-    pub(crate) fn allows(&self, worked: Duration) -> Duration {
-        let part = if self.is_strict() { 1 } else { PART };
-        let paid = worked.checked_div(part).unwrap_or(Duration::ZERO);
-        self.free.saturating_add(paid)
-    }
-
-    /// Whether waiting counts: where plans are made beside the run, only once all of them are made.
+    /// Whether time counts: where plans are made beside the run, only once all of them are made.
     pub(crate) fn is_ready(&self) -> bool {
         self.ready.load(SeqCst)
     }
 
-    /// Whether a thread has given up.
+    /// Whether a thread has ended the phase.
     pub(crate) fn is_over(&self) -> bool {
         self.over.load(SeqCst)
     }
 
-    /// A thread gives up.
+    /// A thread ends the phase.
     pub(crate) fn end(&self) {
         self.over.store(true, SeqCst);
     }

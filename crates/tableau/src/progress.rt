@@ -19,20 +19,19 @@ const TEST_ROUNDS: u32 = 4;
 // What covers the line, which is shorter, and begins it again.
 const CLEARED: &[u8] = b"\r                                                  \r";
 
-// Some threads' part of a run: how many they are, 0 where the run has no such phase, and how far all cores are together at its end,
-// in ticks. The last phase ends with the run.
+// What so many threads made of a run, 0 where there is no such part: in ticks of all cores together.
 #[derive(Drop)]
-struct Phase {
+struct Part {
     threads: AtomicU32,
-    end: AtomicU64,
+    ticks: AtomicU64,
 }
 
-impl Phase {
-    // A phase that hasn't begun.
-    fn none() -> Phase {
-        Phase {
+impl Part {
+    // A part that hasn't begun.
+    fn none() -> Part {
+        Part {
             threads: AtomicU32::new(0),
-            end: AtomicU64::new(u64::MAX),
+            ticks: AtomicU64::new(0),
         }
     }
 }
@@ -51,8 +50,11 @@ pub(crate) struct ProgressGate<C: Clock, P: Print> {
     latest: AtomicU64,
     // The milliseconds from the begin to the last telling, 0 where there is none.
     told: AtomicU64,
-    // Of 32 cores there are seven at most, the last of one thread.
-    phases: [Phase; 8],
+    // That of the workers, and then one for each smaller number of threads that made a phase: of 32 cores there are six at most.
+    parts: [Part; 8],
+    // Which of them makes the present phase, and how far all cores were together when it began, in ticks.
+    present: AtomicU32,
+    from: AtomicU64,
 }
 
 impl<C: Clock, P: Print> ProgressGate<C, P> {
@@ -71,16 +73,18 @@ impl<C: Clock, P: Print> ProgressGate<C, P> {
             rounds,
             latest: AtomicU64::new(0),
             told: AtomicU64::new(0),
-            phases: [
-                Phase::none(),
-                Phase::none(),
-                Phase::none(),
-                Phase::none(),
-                Phase::none(),
-                Phase::none(),
-                Phase::none(),
-                Phase::none(),
+            parts: [
+                Part::none(),
+                Part::none(),
+                Part::none(),
+                Part::none(),
+                Part::none(),
+                Part::none(),
+                Part::none(),
+                Part::none(),
             ],
+            present: AtomicU32::new(0),
+            from: AtomicU64::new(0),
         }
     }
 
@@ -94,49 +98,66 @@ impl<C: Clock, P: Print> ProgressGate<C, P> {
 
     /// Writes whose threads made a run that has ended, on a line of its own, or nothing where no run began.
     pub(crate) fn tell_threads(&self) {
-        let workers = self.phases[0].threads.load(SeqCst).saturating_sub(1);
+        let workers = self.parts[0].threads.load(SeqCst).saturating_sub(1);
         if self.begin.is_none() || workers == 0 {
             return;
         }
         let whole = u64::from(workers)
             .saturating_mul(u64::from(self.rounds))
             .saturating_mul(u64::from(ROUND));
+        self.end_part(whole);
         // (what can't be written is left out)
-        let _ = if self.phases[0].end.load(SeqCst) < whole {
-            self.tell_phases(whole);
-            self.output.write_all(b"\n")
-        } else if workers == 1 {
-            self.output.write_all(b"tableau: 1 worker, of the one core, went on to the end\n")
+        let _ = if self.parts[0].ticks.load(SeqCst) >= whole {
+            self.tell_workers(workers)
         } else {
-            self.output.print(format_args!(
-                "tableau: {workers} workers, one for each core, went on to the end\n"
-            ))
+            self.tell_parts(whole);
+            self.output.write_all(b"\n")
         };
     }
 
-    // Writes how many percent of all ticks each phase made, where it made one. No worker is in the controller's thread.
-    fn tell_phases(&self, whole: u64) {
+    // Writes that workers made the whole run.
+    fn tell_workers(&self, workers: u32) -> Result<(), std::io::Error> {
+        if workers == 1 {
+            return self.output.write_all(
+                b"tableau: 1 worker, of the one core, went on to the end\n",
+            );
+        }
+        self.output.print(format_args!(
+            "tableau: {workers} workers, one for each core, went on to the end\n"
+        ))
+    }
+
+    // Writes how many percent of all ticks each part has, where it has one. No worker is in the controller's thread.
+    fn tell_parts(&self, whole: u64) {
         let (mut who, mut others) = ("worker", 1u32);
-        let mut done = 0u64;
-        for phase in &self.phases {
-            let threads = phase.threads.load(SeqCst);
-            let end = phase.end.load(SeqCst).min(whole);
-            let upto = end.saturating_mul(100) / whole.max(1);
-            if threads > 0 && upto > done {
+        let (mut ticks, mut told) = (0u64, 0u64);
+        for part in &self.parts {
+            let threads = part.threads.load(SeqCst);
+            ticks = ticks.saturating_add(part.ticks.load(SeqCst)).min(whole);
+            let upto = ticks.saturating_mul(100) / whole.max(1);
+            if threads > 0 && upto > told {
+                let percent = upto - told;
                 let count = threads.saturating_sub(others);
                 let many = if count == 1 { "" } else { "s" };
-                let percent = upto - done;
-                let _ = if done == 0 {
+                let _ = if told > 0 {
+                    self.output
+                        .print(format_args!(", {count} {who}{many} {percent} %"))
+                } else {
                     self.output.print(format_args!(
                         "tableau: {count} {who}{many} did {percent} % of the run"
                     ))
-                } else {
-                    self.output
-                        .print(format_args!(", then {count} {who}{many} {percent} %"))
                 };
+                told = upto;
             }
-            done = upto;
             (who, others) = ("thread", 0);
+        }
+    }
+
+    // The present phase has ended, with all cores so far together.
+    fn end_part(&self, ticks: u64) {
+        let made = ticks.saturating_sub(self.from.swap(ticks, SeqCst));
+        if let Some(part) = self.parts.get(self.present.load(SeqCst) as usize) {
+            part.ticks.fetch_add(made, SeqCst);
         }
     }
 
@@ -196,13 +217,16 @@ impl<C: Clock + Sync, P: Print + Sync> Gate for ProgressGate<C, P> {
     }
 
     fn dealt(&self, threads: u32, ticks: u64) {
-        for phase in &self.phases {
-            if phase.threads.load(SeqCst) == 0 {
-                phase.threads.store(threads, SeqCst);
+        self.end_part(ticks);
+        let mut place = 0u32;
+        for part in &self.parts {
+            let there = part.threads.load(SeqCst);
+            if there == 0 || there == threads {
+                part.threads.store(threads, SeqCst);
+                self.present.store(place, SeqCst);
                 return;
             }
-            // (an earlier phase had ended with fewer)
-            phase.end.fetch_min(ticks, SeqCst);
+            place = place.wrapping_add(1);
         }
     }
 }

@@ -49,7 +49,7 @@ returns-clause-held g t c =
     let two = c.join_mut.ensures.1.met.1 in
     let joined = c.meet.ensures.view in
     let met = have_met g.C.Stepper.kind g.L.Stepper.kind g.C.Stepper.lawful g.L.Stepper.lawful c.split_at_mut-rest.result.0.now c.split_at_mut-rest.result.1.now c.args.lead.now (view_of c.args.seat.now)
-    (held g t at) c.mask_from.result (named g t at) _ _ _ (view_of c.part-own.new.seat) (view_of c.part-own.result) _ _ (view_of c.meet.new.seat)
+    (held g t at) c.mask_from.result (named g t at) c.join_mut.new.g.5.now c.join_mut.new.f.4.now c.join_mut.new.g.6.now (view_of c.part-own.new.seat) (view_of c.part-own.result) (view_of c.join_mut.new.g.4.now) (view_of c.join_mut.new.f.3.now) (view_of c.meet.new.seat)
     c.part-own.ensures.kept c.part-own.ensures.given two.1 two.2 one.1 one.2 two.3 one.3 (search rules) c.args.cores.now c.split_at_mut-rest.ensures.value in
     let held = met.held in
     search rules
@@ -61,7 +61,7 @@ returns-clause-same g t c =
     let two = c.join_mut.ensures.1.met.1 in
     let joined = c.meet.ensures.view in
     let met = have_met g.C.Stepper.kind g.L.Stepper.kind g.C.Stepper.lawful g.L.Stepper.lawful c.split_at_mut-rest.result.0.now c.split_at_mut-rest.result.1.now c.args.lead.now (view_of c.args.seat.now)
-    (held g t at) c.mask_from.result (named g t at) _ _ _ (view_of c.part-own.new.seat) (view_of c.part-own.result) _ _ (view_of c.meet.new.seat)
+    (held g t at) c.mask_from.result (named g t at) c.join_mut.new.g.5.now c.join_mut.new.f.4.now c.join_mut.new.g.6.now (view_of c.part-own.new.seat) (view_of c.part-own.result) (view_of c.join_mut.new.g.4.now) (view_of c.join_mut.new.f.3.now) (view_of c.meet.new.seat)
     c.part-own.ensures.kept c.part-own.ensures.given two.1 two.2 one.1 one.2 two.3 one.3 (search rules) c.args.cores.now c.split_at_mut-rest.ensures.value in
     let same = met.same in
     search rules
@@ -73,7 +73,7 @@ returns-clause-actors g t c =
     let two = c.join_mut.ensures.1.met.1 in
     let joined = c.meet.ensures.view in
     let met = have_met g.C.Stepper.kind g.L.Stepper.kind g.C.Stepper.lawful g.L.Stepper.lawful c.split_at_mut-rest.result.0.now c.split_at_mut-rest.result.1.now c.args.lead.now (view_of c.args.seat.now)
-    (held g t at) c.mask_from.result (named g t at) _ _ _ (view_of c.part-own.new.seat) (view_of c.part-own.result) _ _ (view_of c.meet.new.seat)
+    (held g t at) c.mask_from.result (named g t at) c.join_mut.new.g.5.now c.join_mut.new.f.4.now c.join_mut.new.g.6.now (view_of c.part-own.new.seat) (view_of c.part-own.result) (view_of c.join_mut.new.g.4.now) (view_of c.join_mut.new.f.3.now) (view_of c.meet.new.seat)
     c.part-own.ensures.kept c.part-own.ensures.given two.1 two.2 one.1 one.2 two.3 one.3 (search rules) c.args.cores.now c.split_at_mut-rest.ensures.value in
     let actors = met.actors in
     search rules

@@ -1,4 +1,4 @@
-use Rattle.std.proofs.Common.{◌≡◌, ◌-◌}
+use Rattle.std.proofs.Common.{◌≡◌}
 use Rattle.std.specs.Prelude.{vec_capacity}
 use Rattle.round_words.specs.Seats.{view_of, IsSeatOf}
 use Rattle.crew_turns.specs.Going.{SameActors}
@@ -15,4 +15,4 @@ invariant-phases g l = record {
 }
 
 abbrev pub decreases-phases : goal.decreases-phases
-decreases-phases g l = l.threads - 1
+decreases-phases g l = l.left
