@@ -22,13 +22,9 @@ pub enum Verdict {
     /// The text's tables are a plan of the host.
     Plan,
     /// No period meets the latency of this vCPU, so the host has no plan.
-    NoPeriod {
-        vcpu: VcpuNo,
-    },
+    NoPeriod { vcpu: VcpuNo },
     /// This line of the text, from 1, is none of a plan of the host.
-    BadLine {
-        line: u32,
-    },
+    BadLine { line: u32 },
     /// The tables have this fault.
     BadTables(CheckFault),
 }

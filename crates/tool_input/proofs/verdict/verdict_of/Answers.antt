@@ -12,7 +12,7 @@ returns-in-Err c = of_tasks c.args.host.now c.args.text.now c.in-Err.fault c.ver
 pub returns-in-Err-BadLine : goal.returns-in-Err-BadLine
 returns-in-Err-BadLine c =
     rw c.in-Err-BadLine.field-0-is (IsVerdict.BadLine c.in-Ok.tasks c.in-Err-BadLine.line c.in-Ok.ensures.ok
-        (c.in-Err-BadLine.ensures.bad_line c.in-Err-BadLine.line (ap Err c.in-Err-BadLine.field-0-is)))
+    (c.in-Err-BadLine.ensures.bad_line c.in-Err-BadLine.line (ap Err c.in-Err-BadLine.field-0-is)))
 
 pub returns-in-None : goal.returns-in-None
 returns-in-None c =
