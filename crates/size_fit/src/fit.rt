@@ -34,9 +34,8 @@ pub struct Room<'a> {
 /// They fit where the host has a plan. `NoPeriod` and `NoRoom` are those of its refusal, and come then and only then,
 /// but that out of memory may come in place of any answer.
 ///
-/// More VMs are planned after the host's own. A count of them is searched by doubling and halving, with at most some
-/// fifteen plans for each size. It is one that fits where one more doesn't. Whether each lower count fits too isn't
-/// proved.
+/// More VMs are planned after the host's own. A count of them is searched by doubling and halving: it is one that fits
+/// where one more doesn't. Whether each lower count fits too, and how many plans the search makes, isn't proved.
 pub fn fit_sizes<'a>(alloc: Global, host: &Host, sizes: &[Size<'a>]) -> Result<Fit<'a>, PlanFault>
     ensures fits { IfOk result (λ fit. IsFit host.now sizes.now fit.loads.items fit.rooms.items) }
     ensures cores { IfOk result (λ fit. length fit.loads.items ≡ host.now.cores) }

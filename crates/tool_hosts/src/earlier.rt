@@ -1,5 +1,9 @@
 //! The lines of an earlier placing, and the hosts on which VMs were by them.
-ghost use Rattle.std.specs.Prelude.{◌≡◌, length};
+ghost use Rattle.std.specs.Prelude.{◌≡◌, ◌<◌, ◌++◌, IfOk, OnOk, Some, [], ◌∷◌, false, length, replicate, slice_get, slice_set};
+ghost use Rattle.fleet_place.specs.Deals.{with_vm};
+ghost use Rattle.fleet_place.specs.Held.{Held};
+ghost use Rattle.tool_hosts.specs.Earlier.{AreBack, PutBack, held_in, others_in};
+ghost use Rattle.tool_hosts.specs.Inside.Turns.{IsTurn};
 
 use crate::fleet::bad_line;
 use crate::vms::{NamedVm, numbers_of};
@@ -95,7 +99,9 @@ pub(crate) fn put_back<'a>(
     groups: &mut [Group<'a>],
     vms: &[Vm<'a>],
     stays: &[Stay],
-) -> Result<Vec<Vm<'a>>, NoMemory> {
+) -> Result<Vec<Vm<'a>>, NoMemory>
+    ensures { IfOk result (λ others. AreBack vms.now (held_in groups.old) stays.now (held_in groups.new) others.items) }
+{
     let mut is_back = vec![in alloc; false; vms.len()]?;
     put_on(groups, vms, stays, &mut is_back)?;
     others_of(alloc, vms, &is_back)
@@ -108,22 +114,55 @@ fn put_on<'a>(
     stays: &[Stay],
     is_back: &mut [bool],
 ) -> Result<(), NoMemory>
-    requires { length is_back.old ≡ length vms.now }
+    requires { is_back.old ≡ replicate (length vms.now) false }
+    ensures { OnOk result (PutBack vms.now (held_in groups.old) stays.now (held_in groups.new) is_back.new) }
 {
     for stay in stays {
-        let (vm, host) = (stay.vm, stay.host);
-        if vm < vms.len() && host < groups.len() as u64 && !is_back[vm] {
-            is_back[vm] = true;
-            let group = &mut groups[host as usize];
-            group.vms.push(vms[vm])?;
-        }
+        put_stay(groups, vms, stay, is_back)?;
     }
+    Ok(())
+}
+
+// Puts the VM of a line on its host, if both are there and the VM is on none yet.
+fn put_stay<'a>(
+    groups: &mut [Group<'a>],
+    vms: &[Vm<'a>],
+    stay: &Stay,
+    is_back: &mut [bool],
+) -> Result<(), NoMemory>
+    requires { length is_back.old ≡ length vms.now }
+    ensures { OnOk result (IsTurn vms.now stay.now (held_in groups.old) is_back.old (held_in groups.new) is_back.new) }
+{
+    let (vm, host) = (stay.vm, stay.host);
+    if vm >= vms.len() {
+        return Ok(());
+    }
+    if host >= groups.len() as u64 {
+        return Ok(());
+    }
+    if is_back[vm] {
+        return Ok(());
+    }
+    is_back[vm] = true;
+    push_to(groups, host as usize, &vms[vm])?;
+    Ok(())
+}
+
+// Puts a VM on the host of a number.
+fn push_to<'a>(groups: &mut [Group<'a>], number: usize, vm: &Vm<'a>) -> Result<(), NoMemory>
+    requires { number < length groups.old }
+    ensures { OnOk result ((held : Held) → slice_get (held_in groups.old) number ≡ Some held
+        → held_in groups.new ≡ slice_set (held_in groups.old) number (with_vm held vm.now)) }
+{
+    let group = &mut groups[number];
+    group.vms.push(*vm)?;
     Ok(())
 }
 
 // The VMs that aren't back on a host.
 fn others_of<'a>(alloc: Global, vms: &[Vm<'a>], is_back: &[bool]) -> Result<Vec<Vm<'a>>, NoMemory>
     requires { length is_back.now ≡ length vms.now }
+    ensures { IfOk result (λ others. others.items ≡ others_in is_back.now vms.now) }
 {
     let mut others = Vec::new(alloc);
     for (number, vm) in vms.iter().enumerate() {

@@ -1,12 +1,16 @@
-ghost use Rattle.std.specs.Prelude.{◌≤◌, length};
+ghost use Rattle.std.specs.Prelude.{◌≡◌, ◌<◌, ◌≤◌, ◌^◌, length};
 ghost use Rattle.tab_core.specs.declared.TheConstants.{MAX_VCPUS};
+ghost use Rattle.tab_io.specs.Sinks.{Writes};
+ghost use Rattle.tool_hosts.specs.Exports.{export_fault, export_text, guest_fault, scheduler_of};
 
 use crate::map::{rename, renamed, renamings_of};
-use tab_core::Vcpu;
+use std::alloc::Global;
+use tab_core::{Host, Vcpu};
 use tab_io::{Sink, WriteFault};
 use tab_words::cut_sections;
 use tool_input::{
-    Fault, Input, Refusal, finish, host_of, input_beside, no_host, output_of, plan_of,
+    Fault, Input, Refusal, finish, host_of, input_beside, no_host, output_of, plan_of, refusal_of,
+    shown_whole,
 };
 use view_doc::View;
 use view_schedulers::{
@@ -31,7 +35,9 @@ pub enum LineForm {
 
 impl LineForm {
     // The scheduler that carries the lines out.
-    fn scheduler(self) -> Scheduler {
+    fn scheduler(self) -> Scheduler
+        ensures { result ≡ scheduler_of self }
+    {
         match self {
             LineForm::Rtds => Scheduler::Rtds,
             LineForm::Deadline => Scheduler::Deadline,
@@ -54,7 +60,7 @@ pub struct LineWords<'w> {
     pub first_cpu: Option<u32>,
 }
 
-/// Does `export` for a scheduler: it reads a host and its plan, and writes the lines that put the plan's vCPUs there, by
+/// Does `export` for a scheduler: it reads a host and its plan, which `tableau check` has to accept, and writes the lines that put the plan's vCPUs there, by
 /// the names that a map gives them where one is named.
 pub fn export_lines(rt: &HostRuntime, words: &LineWords<'_>) -> Result<(), Fault> {
     let (form, map) = (words.form, words.map);
@@ -72,19 +78,43 @@ pub fn export_lines(rt: &HostRuntime, words: &LineWords<'_>) -> Result<(), Fault
         let fault = Refusal::of(rt.alloc(), &fault, &view)?;
         return Err(Fault::Unkept { place, fault });
     }
+    checked(rt.alloc(), place, &host, sections.part(1))?;
     let first_cpu = words.first_cpu.unwrap_or(0);
     let mut sink = output_of(rt)?;
     put_lines(&mut sink, form, first_cpu, host.tick_ns, &vcpus, &view)?;
     finish(&mut sink)
 }
 
+// Refuses the text of a plan that `tableau check` refuses beside this host, with its line.
+fn checked(alloc: Global, place: String, host: &Host, text: &[u8]) -> Result<(), Fault>
+    requires { length text.now < 2 ^ 31 }
+{
+    let line = refusal_of(alloc, host, text)?;
+    if line.is_empty() {
+        return Ok(());
+    }
+    Err(Fault::BadTables {
+        place,
+        line: shown_whole(alloc, &line)?,
+    })
+}
+
 // Why the plan isn't put there, if it isn't.
 fn refused(form: LineForm, tick_ns: u32, vcpus: &[Vcpu], view: &View) -> Option<Unkept>
     requires { length view.now.tasks.items ≤ MAX_VCPUS }
+    ensures { result ≡ export_fault form tick_ns vcpus.now view.now }
 {
     if let Some(fault) = unkept_of(form.scheduler(), tick_ns, vcpus, view) {
         return Some(fault);
     }
+    guest_fault(form, tick_ns, view)
+}
+
+// The fault of guests whose vCPUs have to be alike and aren't.
+fn guest_fault(form: LineForm, tick_ns: u32, view: &View) -> Option<Unkept>
+    requires { length view.now.tasks.items ≤ MAX_VCPUS }
+    ensures { result ≡ guest_fault form tick_ns view.now }
+{
     match form {
         LineForm::Libvirt => unlike_of(tick_ns, view),
         LineForm::Rtds | LineForm::Deadline | LineForm::FullDeadline | LineForm::Cgroup => None,
@@ -99,11 +129,16 @@ fn put_lines<K: Sink>(
     tick_ns: u32,
     vcpus: &[Vcpu],
     view: &View,
-) -> Result<(), WriteFault> {
+) -> Result<(), WriteFault>
+    ensures { Writes (K.state sink.old) (K.state sink.new) (export_text form first_cpu tick_ns vcpus.now view.now) result }
+{
     match form {
         LineForm::Rtds => write_rtds(sink, first_cpu, tick_ns, vcpus, view),
-        LineForm::Deadline | LineForm::FullDeadline => {
-            write_deadline(sink, form.scheduler(), first_cpu, tick_ns, view)
+        LineForm::Deadline => {
+            write_deadline(sink, Scheduler::Deadline, first_cpu, tick_ns, view)
+        }
+        LineForm::FullDeadline => {
+            write_deadline(sink, Scheduler::FullDeadline, first_cpu, tick_ns, view)
         }
         LineForm::Cgroup => write_cgroup(sink, first_cpu, tick_ns, view),
         LineForm::Libvirt => write_libvirt(sink, first_cpu, tick_ns, view),

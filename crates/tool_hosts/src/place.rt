@@ -1,10 +1,12 @@
 ghost use Rattle.std.specs.Prelude.{◌≡◌, ◌<◌, ◌≤◌, ◌^◌, IfOk, length};
 ghost use Rattle.tab_core.specs.declared.TheConstants.{MAX_TICK_NS, MIN_TICK_NS};
+ghost use Rattle.fleet_place.specs.Deals.{IsPlacing};
+ghost use Rattle.tool_hosts.specs.Earlier.{IsPlacingBeside, held_in};
 ghost use Rattle.tool_hosts.specs.declared.fleet.TheConstants.{MAX_HOSTS};
 ghost use Rattle.tool_hosts.specs.declared.vms.TheConstants.{MAX_VMS};
 
 use crate::documents::put_documents;
-use crate::earlier::{put_back, stays_of};
+use crate::earlier::{Stay, put_back, stays_of};
 use crate::enough::more_hosts;
 use crate::fleet::{Fleet, fleet_of};
 use crate::hosts::text_of;
@@ -147,8 +149,25 @@ fn placing_of<'a>(
     let Fleet { mut hosts } = fleet;
     let stays = stays_of(rt, asked.stay, vms)?;
     let all = vms_of(rt.alloc(), asked.tick_ns, vms)?;
-    let others = put_back(rt.alloc(), &mut hosts, &all, &stays)?;
-    let placing = placed(rt.alloc(), asked.tick_ns, &hosts, &others)?;
+    placed_beside(rt.alloc(), asked.tick_ns, &mut hosts, &all, &stays)
+}
+
+// The VMs placed, where those stay on their hosts that were there by these lines.
+fn placed_beside<'a>(
+    alloc: Global,
+    tick_ns: u32,
+    hosts: &mut [Group<'a>],
+    vms: &[Vm<'a>],
+    stays: &[Stay],
+) -> Result<Placing<'a>, Fault>
+    requires least_tick { MIN_TICK_NS ≤ tick_ns }
+    requires most_tick { tick_ns ≤ MAX_TICK_NS }
+    ensures placing { IfOk result (λ placing. IsPlacingBeside tick_ns (held_in hosts.old) vms.now stays.now
+        placing.hosts.items placing.left.items) }
+    ensures hosts { IfOk result (λ placing. length placing.hosts.items ≡ length hosts.old) }
+{
+    let others = put_back(alloc, hosts, vms, stays)?;
+    let placing = placed(alloc, tick_ns, hosts, &others)?;
     Ok(placing)
 }
 
@@ -161,7 +180,9 @@ pub(crate) fn placed<'a>(
 ) -> Result<Placing<'a>, Fault>
     requires least_tick { MIN_TICK_NS ≤ tick_ns }
     requires most_tick { tick_ns ≤ MAX_TICK_NS }
-    ensures { IfOk result (λ placing. length placing.hosts.items ≡ length groups.now) }
+    ensures placing { IfOk result (λ placing. IsPlacing tick_ns groups.now others.now placing.hosts.items
+        placing.left.items) }
+    ensures hosts { IfOk result (λ placing. length placing.hosts.items ≡ length groups.now) }
 {
     match place(alloc, tick_ns, groups, others) {
         Ok(placing) => Ok(placing),

@@ -172,6 +172,11 @@ pub enum Fault {
         place: String,
         name: String,
     },
+    #[error("{place}tableau check refuses the plan: {line}")]
+    BadTables {
+        place: String,
+        line: String,
+    },
     #[error("{place}line {line} of the map isn't NAME GUEST NUMBER, as: mail web 0, or names a vCPU again: '{text}'")]
     BadMapLine {
         place: String,

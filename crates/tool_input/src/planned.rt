@@ -4,6 +4,7 @@ ghost use Rattle.tab_core.specs.declared.TheConstants.{MAX_CORES, MAX_VCPUS};
 use crate::fault::Fault;
 use crate::input::{Input, input_of};
 use crate::plan::{host_of, plan_of, view_in};
+use crate::verdict::refusal_of;
 use std::alloc::Global;
 use std::io::IsTerminal;
 use tab_core::{Host, TICK_NS};
@@ -57,6 +58,16 @@ pub fn planned_in(alloc: Global, input: &Input) -> Result<Planned, Fault> {
     }
     let view = plan_of(alloc, &input.place, sections.part(0))?;
     Ok(Planned { host: None, view })
+}
+
+/// The line by which `tableau check` refuses the plan of a text, which is this host and its plan, without the line's end;
+/// empty where it doesn't refuse it.
+pub fn refusal_in(alloc: Global, host: &Host, input: &Input) -> Result<Vec<u8>, Fault> {
+    let sections = cut_sections(&input.bytes);
+    if sections.count() == 2 {
+        return refusal_of(alloc, host, sections.part(1));
+    }
+    Ok(Vec::new(alloc))
 }
 
 /// What a text shows that is a plan, a run, or both, and nanoseconds of a tick where its host is there, before them.

@@ -9,13 +9,30 @@ const SHOWN: usize = 60;
 pub fn shown(alloc: Global, bytes: &[u8]) -> Result<String, AllocError> {
     let mut text = String::new(alloc);
     for byte in bytes.iter().take(SHOWN) {
-        let is_shown = (32..=126).contains(byte);
-        text.push(if is_shown { char::from(*byte) } else { '?' })?;
+        text.push(shown_byte(*byte))?;
     }
     if bytes.len() > SHOWN {
         text.push_str("..")?;
     }
     Ok(text)
+}
+
+/// All of the bytes as a fault shows them, where it shows a line of ours.
+pub fn shown_whole(alloc: Global, bytes: &[u8]) -> Result<String, AllocError> {
+    let mut text = String::new(alloc);
+    for byte in bytes {
+        text.push(shown_byte(*byte))?;
+    }
+    Ok(text)
+}
+
+// The byte as a character of ASCII; a question mark for one that isn't printable.
+fn shown_byte(byte: u8) -> char {
+    if (32..=126).contains(&byte) {
+        char::from(byte)
+    } else {
+        '?'
+    }
 }
 
 /// What is before a fault of the file of this path: its name, a colon and a space; nothing for standard input.

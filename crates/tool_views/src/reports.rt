@@ -8,14 +8,15 @@ use tab_io::MemSink;
 use tab_words::cut_sections;
 use tool_input::{
     Fault, Input, cut_in_return, drawable, finish, host_of, input_beside, output_of, plan_of,
-    planned_of, view_in,
+    planned_of, refusal_of, view_in,
 };
 use view_doc::View;
 use view_page::{Page, write_page};
-use view_table::figures_of;
+use view_table::refused_figures_of;
 
 /// Does `report`: it reads a host and its plan, or a host, a script and the trace of its run, and writes a page of HTML. A
-/// plan is compared with that of the older file, if one is named.
+/// plan is compared with that of the older file, if one is named. Where `tableau check` refuses the plan, its line is above
+/// the tables.
 pub fn report(rt: &HostRuntime, file: Option<&str>, old: Option<&str>) -> Result<(), Fault> {
     let Input { place, bytes } = input_beside(rt, file, old)?;
     let sections = cut_sections(&bytes);
@@ -23,7 +24,8 @@ pub fn report(rt: &HostRuntime, file: Option<&str>, old: Option<&str>) -> Result
         2 => {
             let host = host_of(rt.alloc(), &place, sections.part(0))?;
             let view = plan_of(rt.alloc(), &place, sections.part(1))?;
-            put_plan(rt, &host, view, old)
+            let refusal = refusal_of(rt.alloc(), &host, sections.part(1))?;
+            put_plan(rt, &host, view, refusal, old)
         }
         3 => {
             if old.is_some() {
@@ -31,7 +33,8 @@ pub fn report(rt: &HostRuntime, file: Option<&str>, old: Option<&str>) -> Result
             }
             let host = host_of(rt.alloc(), &place, sections.part(0))?;
             let view = drawable(view_in(rt.alloc(), &place, sections.part(2))?)?;
-            put_page(rt, &host, &view, Some(sections.part(1)), None)
+            let refusal = Vec::new(rt.alloc());
+            put_page(rt, &host, &view, refusal, Some(sections.part(1)), None)
         }
         count => match cut_in_return(&bytes) {
             Some(line) => Err(Fault::Return { place, line }),
@@ -40,17 +43,24 @@ pub fn report(rt: &HostRuntime, file: Option<&str>, old: Option<&str>) -> Result
     }
 }
 
-// Writes the page of a plan, which is compared with the plan of this file, if one is named.
-fn put_plan(rt: &HostRuntime, host: &Host, view: View, old: Option<&str>) -> Result<(), Fault>
+// Writes the page of a plan, which is refused with this line, if it isn't empty, and compared with the plan of this file,
+// if one is named.
+fn put_plan(
+    rt: &HostRuntime,
+    host: &Host,
+    view: View,
+    refusal: Vec<u8>,
+    old: Option<&str>,
+) -> Result<(), Fault>
     requires { length view.tasks.items ≤ MAX_VCPUS }
 {
     let view = drawable(view)?;
     match old {
         Some(path) => {
             let text = since(rt, path, &view, host.tick_ns)?;
-            put_page(rt, host, &view, None, Some(text.bytes()))
+            put_page(rt, host, &view, refusal, None, Some(text.bytes()))
         }
-        None => put_page(rt, host, &view, None, None),
+        None => put_page(rt, host, &view, refusal, None, None),
     }
 }
 
@@ -68,6 +78,7 @@ fn put_page(
     rt: &HostRuntime,
     host: &Host,
     view: &View,
+    refusal: Vec<u8>,
     script: Option<&[u8]>,
     differences: Option<&[u8]>,
 ) -> Result<(), Fault>
@@ -75,7 +86,7 @@ fn put_page(
     requires vcpus { length view.now.names.items ≤ MAX_VCPUS }
     requires tasks { length view.now.tasks.items ≤ MAX_VCPUS }
 {
-    let figures = figures_of(rt.alloc(), view)?;
+    let figures = refused_figures_of(rt.alloc(), view, refusal)?;
     let mut sink = output_of(rt)?;
     let page = Page {
         host: Some(host.vcpus.items()),

@@ -37,14 +37,16 @@ top_text cores vcpus tick = codes "<!DOCTYPE html>\n<html lang=\"en\">\n<head>\n
     ++ (codes "</dd><dt>vCPUs</dt><dd>" ++ (decimal vcpus ++ (codes "</dd><dt>tick</dt><dd>" ++ (decimal tick
     ++ codes " ns</dd></dl>\n")))))
 
--- the tables by vCPU and by virtual machine
-unfoldable pub both_tables : Option (List Vcpu) → ℕ → View → List ℕ
-both_tables host tick view = codes "<h2>By vCPU and by core</h2>\n<pre tabindex=\"0\">" ++ (table_text host tick view
-    ++ (codes "</pre>\n<h2>By virtual machine and by core</h2>\n<pre tabindex=\"0\">" ++ (vm_table_text host tick view ++ codes "</pre>\n")))
+-- the tables by vCPU and by virtual machine; where `tableau check` refuses them, its line is above each
+unfoldable pub both_tables : Option (List Vcpu) → List ℕ → ℕ → View → List ℕ
+both_tables host refusal tick view = codes "<h2>By vCPU and by core</h2>\n<pre tabindex=\"0\">"
+    ++ (table_text host refusal tick view
+    ++ (codes "</pre>\n<h2>By virtual machine and by core</h2>\n<pre tabindex=\"0\">"
+    ++ (vm_table_text host refusal tick view ++ codes "</pre>\n")))
 
 -- the tables by vCPU and by virtual machine, where the view has a vCPU of a plan
-abbrev pub tables_part : Option (List Vcpu) → ℕ → View → List ℕ
-tables_part host tick view = if length view.tasks.items == 0 then [] else both_tables host tick view
+abbrev pub tables_part : Option (List Vcpu) → List ℕ → ℕ → View → List ℕ
+tables_part host refusal tick view = if length view.tasks.items == 0 then [] else both_tables host refusal tick view
 
 -- all of a view, by core or by vCPU: the first picture or the second
 abbrev pub whole_options : Bool → ℕ → ChartOptions
@@ -95,7 +97,7 @@ differences_part (Some text) = framed_text text
 -- differs from an older plan
 abbrev pub page_text : Page → List ℕ
 page_text page = top_text (cores_in page.view.now) (length page.view.now.names.items) page.tick_ns
-    ++ (tables_part (option_copied page.host) page.tick_ns page.view.now
+    ++ (tables_part (option_copied page.host) page.figures.now.refusal.items page.tick_ns page.view.now
     ++ (pictures_part page.tick_ns page.view.now page.figures.now
     ++ (script_part (option_copied page.script)
     ++ (differences_part (option_copied page.differences) ++ codes "</body>\n</html>\n"))))

@@ -36,7 +36,8 @@ pub struct Page<'a> {
 /// Writes a view of at most 32 cores and 256 vCPUs as one page of HTML.
 ///
 /// The page has the tables of a plan, beside what the vCPUs of a host have reserved, the pictures by core and by vCPU, the
-/// script of a run, and what differs from an older plan. It loads nothing, and suits wide and narrow screens, light and
+/// script of a run, and what differs from an older plan. Where `tableau check` refuses the tables, its line is above them.
+/// It loads nothing, and suits wide and narrow screens, light and
 /// dark.
 ///
 /// It fails where the sink does, or where memory runs out; a prefix of the page is in the sink then. Nothing is
@@ -101,7 +102,7 @@ fn put_tables<K: Sink>(
     requires cores { view.now.cores ≤ MAX_CORES }
     requires tasks { length view.now.tasks.items ≤ MAX_VCPUS }
     ensures { WritesPart (K.state sink.old) (K.state sink.new)
-        (tables_part (option_copied host.entry) tick_ns view.now) result }
+        (tables_part (option_copied host.entry) figures.now.refusal.items tick_ns view.now) result }
 {
     if view.tasks.is_empty() {
         return Ok(());
@@ -120,7 +121,7 @@ fn put_both_tables<K: Sink>(
     requires cores { view.now.cores ≤ MAX_CORES }
     requires tasks { length view.now.tasks.items ≤ MAX_VCPUS }
     ensures { Writes (K.state sink.old) (K.state sink.new)
-        (both_tables (option_copied host.entry) tick_ns view.now) result }
+        (both_tables (option_copied host.entry) figures.now.refusal.items tick_ns view.now) result }
 {
     write_all(sink, b"<h2>By vCPU and by core</h2>\n<pre tabindex=\"0\">")?;
     write_table(sink, host, view, figures, tick_ns)?;

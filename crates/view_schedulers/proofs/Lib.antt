@@ -1,4 +1,5 @@
 pub mod FaultLemmas
+pub mod FitLemmas
 pub mod KeptLemmas
 pub mod LineLemmas
 pub mod PeriodLemmas

@@ -1,4 +1,5 @@
 pub mod Budgets
+pub mod Fits
 pub mod Guests
 pub mod LibvirtLines
 pub mod Lines

@@ -7,6 +7,7 @@ pub(crate) const RTDS_HEAD: &[u8] = b"\
 # Not kept: which ticks of a period are whose. A vCPU that isn't capped takes what others leave (-e 1), as Xen shares it.
 # Apply: sh FILE, as root, where the guests are in a pool of RTDS (sched=rtds) and nothing else is on these CPUs.
 # Undo, for each guest: xl vcpu-pin GUEST all all all; xl sched-rtds -d GUEST -v all -p 10000 -b 4000 -e 1
+set -e
 ";
 
 /// How a text for Linux's deadline tasks begins.
@@ -14,7 +15,8 @@ pub(crate) const DEADLINE_HEAD: &[u8] = b"\
 # Deadline tasks of Linux for the vCPUs of a plan, written by tableau-tools export deadline.
 # Kept there: each vCPU's budget in each of its periods, so its share and its longest wait; and the cap, of every vCPU.
 # Not kept: which ticks of a period are whose, and what a vCPU leaves unused goes to no other that isn't capped.
-# Apply: SPARE=0-1 sh FILE, as root, with cgroups v2 alone; SPARE has the CPUs of the guests' other threads.
+# Apply: SPARE=0-1 sh FILE, as root, with cgroups v2 alone; SPARE has the CPUs of the guests' other threads, and one CPU
+# or more has to be neither there nor the plan's. The first line that fails ends it.
 # Undo, for each vCPU: chrt --other --pid 0 THREAD; then move the guests out of the group, and remove its folders.
 ";
 
@@ -45,12 +47,20 @@ sysctl -w kernel.sched_rt_runtime_us=-1
 
 /// What makes the partitions.
 pub(crate) const PARTITIONS: &[u8] = b"\
+# part FOLDER: makes the group a partition, and stops where the kernel doesn't take it.
+part() {
+    echo root > \"$1/cpuset.cpus.partition\"
+    if ! grep -qx root \"$1/cpuset.cpus.partition\"; then
+        echo \"$1: the kernel takes no partition: $(cat \"$1/cpuset.cpus.partition\")\" >&2
+        exit 1
+    fi
+}
 # core CPU: a partition of this CPU alone.
 core() {
     mkdir -p \"$group/cpu$1\"
     echo threaded > \"$group/cpu$1/cgroup.type\"
     echo \"$1\" > \"$group/cpu$1/cpuset.cpus\"
-    echo root > \"$group/cpu$1/cpuset.cpus.partition\"
+    part \"$group/cpu$1\"
 }
 # into GUEST N CPU: the vCPU's thread goes into that partition, and its guest's other threads to the spare CPUs.
 into() {
@@ -61,7 +71,7 @@ into() {
 echo +cpuset > /sys/fs/cgroup/cgroup.subtree_control
 mkdir -p \"$group\"
 echo \"${SPARE:?has no CPUs}\" $cpus | tr ' ' ',' > \"$group/cpuset.cpus\"
-echo root > \"$group/cpuset.cpus.partition\"
+part \"$group\"
 echo +cpuset > \"$group/cgroup.subtree_control\"
 for cpu in $cpus; do core \"$cpu\"; done
 ";
@@ -106,4 +116,5 @@ pub(crate) const LIBVIRT_HEAD: &[u8] = b"\
 # A guest has one period and one quota, in microseconds, for each of its vCPUs; no weights are set.
 # Apply: sh FILE, to guests that run. A comment has what a guest's XML has to say of it, for virsh edit.
 # Undo, for each guest: virsh schedinfo GUEST --set vcpu_quota=-1; for each vCPU: virsh vcpupin GUEST N 0-LAST
+set -e
 ";

@@ -2,13 +2,15 @@
 //! scheduler's unit of time, why some plan isn't put there, and the lines that do it.
 //!
 //! `specs/Budgets.antt` has the arithmetic, `specs/Unkept.antt` the refusals and `specs/Supply.antt` what a scheduler
-//! keeps that gives each vCPU its budget in each of its periods. The texts are those of `specs/Lines.antt`,
+//! keeps that gives each vCPU its budget in each of its periods. `specs/Fits.antt` has cores that are just full, which
+//! aren't refused. The texts are those of `specs/Lines.antt`,
 //! `specs/QuotaLines.antt` and `specs/LibvirtLines.antt`.
 #![tactic(auto)]
 
 mod budget;
 mod guest;
 mod heads;
+mod laws;
 mod libvirt;
 mod lines;
 mod loads;
@@ -18,6 +20,7 @@ mod scheduler;
 mod unkept;
 mod unlike;
 
+pub use laws::an_exact_fit_is_not_overbooked;
 pub use libvirt::write_libvirt;
 pub use lines::{write_deadline, write_rtds};
 pub use quotas::write_cgroup;
@@ -25,6 +28,7 @@ pub use scheduler::Scheduler;
 pub use unkept::{Unkept, unkept_of};
 pub use unlike::unlike_of;
 
-/// Parts of a core's time, by which budgets of different periods are added. Where periods divide a round of
-/// 102,600 ticks and a tick is a whole number of the scheduler's units, each budget is a whole number of them.
+/// Parts of a core's time, by which budgets of different periods are added: a thousand for each of the 102,600 ticks of a
+/// round. Where periods divide the round and a tick is a whole number of the scheduler's units, each budget is a whole
+/// number of them, so that a core that is just full isn't overbooked.
 pub const PARTS: u64 = 102_600_000;

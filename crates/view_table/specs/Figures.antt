@@ -3,6 +3,7 @@ use Rattle.std.specs.Prelude.{◌≡◌, ℕ, ◌+◌, ◌*◌, ◌<◌, Bool, f
 use Rattle.tab_core.specs.declared.TheConstants.{MAX_CORES}
 use Rattle.view_doc.specs.declared.view.Stretch.{Stretch}
 use Rattle.view_doc.specs.declared.view.View.{View}
+use Rattle.view_table.specs.Given.{given_to}
 use Rattle.view_table.specs.Loads.{has_slot_on}
 use Rattle.view_table.specs.Waits.{EndsAt, wait_of}
 use Rattle.view_table.specs.declared.figures.Figures.{Figures}
@@ -23,8 +24,14 @@ pub record AreWaitMarks (slots : List Stretch) (count : ℕ) (marks : List ℕ) 
   pub size : length marks ≡ count
   pub each : (v : ℕ) → v < count → EndsAt slots v (wait_of slots v) (slice_index marks v)
 
+-- the ticks in a round of the slots of each vCPU below the count
+pub record AreGiven (slots : List Stretch) (count : ℕ) (given : List ℕ) : Type 0 where
+  pub size : length given ≡ count
+  pub each : (v : ℕ) → v < count → slice_index given v ≡ given_to slots v
+
 -- the figures of the vCPUs that a plan has lines for
 pub record AreFigures (view : View) (figures : Figures) : Type 0 where
   pub waits : AreWaits view.slots.items (length view.tasks.items) figures.waits.items
   pub marks : AreWaitMarks view.slots.items (length view.tasks.items) figures.marks.items
   pub stands : AreStands view.slots.items (length view.tasks.items) figures.stands.items
+  pub given : AreGiven view.slots.items (length view.tasks.items) figures.given.items

@@ -1,5 +1,5 @@
 -- The vCPUs of a plan by virtual machine: the VM of a vCPU is its name's part before the last dot.
-use Rattle.std.specs.Prelude.{ℕ, zero, suc, ◌+◌, ◌==◌, ◌&&◌, ◌||◌, nat_lt, Bool, false, not, if◌then◌else◌, max, min, List, [], ◌++◌, codes, decimal, length, Option, Some, None, slice_get, slice_index, take}
+use Rattle.std.specs.Prelude.{ℕ, zero, suc, ◌+◌, ◌==◌, ◌&&◌, ◌||◌, nat_lt, Bool, false, not, if◌then◌else◌, max, min, List, [], ◌++◌, codes, decimal, length, Option, Some, None, slice_index, take}
 use Rattle.std.specs.Str.{bytes_eq}
 use Rattle.tab_core.specs.declared.reservation.Reservation.{Reservation}
 use Rattle.tab_core.specs.declared.vcpu.Vcpu.{Vcpu}
@@ -7,10 +7,9 @@ use Rattle.tab_words.specs.Texts.{texts_below}
 use Rattle.vcpu_names.specs.Names.{name_at}
 use Rattle.view_doc.specs.declared.view.Stretch.{Stretch}
 use Rattle.view_doc.specs.declared.view.Task.{Task}
-use Rattle.view_doc.specs.declared.view.View.{View}
-use Rattle.view_cells.specs.Cells.{count_cell, left, millis_cell, percent_cell, right, width_below, yes_or_no}
+use Rattle.view_cells.specs.Cells.{count_cell, left, millis_cell, percent_cell, right}
 use Rattle.view_table.specs.Loads.{has_slot_on}
-use Rattle.view_table.specs.Table.{asked_of, core_head, core_row, is_promise_kept, task_share, wait_cell}
+use Rattle.view_table.specs.Table.{asked_of, given_share, is_promise_kept, kept_word, task_share, wait_cell}
 use Rattle.view_table.specs.Waits.{wait_of}
 
 -- where the VM's part of a name ends, by so many of its bytes: at the last dot after the first byte,
@@ -50,7 +49,7 @@ unfoldable pub most_in : (ℕ → ℕ) → List (List ℕ) → List ℕ → ℕ 
 most_in figure names vm zero = 0
 most_in figure names vm (suc v) = max (most_in figure names vm v) (if is_of_vm names vm v then figure v else 0)
 
--- the share of a vCPU of a number
+-- the share of a vCPU's line, if the plan has one
 abbrev pub share_in : Option Task → ℕ
 share_in None = 0
 share_in (Some t) = task_share t
@@ -91,13 +90,13 @@ is_broken_by tick None share wait = false
 is_broken_by tick (Some r) share wait = not (is_promise_kept tick r share wait)
 
 -- what was promised to the vCPU of a number isn't kept; nothing was where none of its name is admitted
-abbrev pub is_broken : ℕ → List Vcpu → List (List ℕ) → List Task → List Stretch → ℕ → Bool
-is_broken tick vcpus names tasks slots v =
-    is_broken_by tick (asked_at vcpus names v) (share_in (slice_get tasks v)) (wait_of slots v)
+abbrev pub is_broken : ℕ → List Vcpu → List (List ℕ) → List Stretch → ℕ → Bool
+is_broken tick vcpus names slots v =
+    is_broken_by tick (asked_at vcpus names v) (given_share slots v) (wait_of slots v)
 
 -- one of the VM's vCPUs hasn't what it was promised
-abbrev pub vm_breaks : ℕ → List Vcpu → List (List ℕ) → List ℕ → List Task → List Stretch → ℕ → Bool
-vm_breaks tick vcpus names vm tasks slots v = is_broken tick vcpus names tasks slots v && is_of_vm names vm v
+abbrev pub vm_breaks : ℕ → List Vcpu → List (List ℕ) → List ℕ → List Stretch → ℕ → Bool
+vm_breaks tick vcpus names vm slots v = is_broken tick vcpus names slots v && is_of_vm names vm v
 
 -- ---- rows
 
@@ -117,9 +116,9 @@ least_latency_cell None = right 13 (codes "-")
 least_latency_cell (Some ns) = millis_cell 9 ns
 
 -- whether each of its vCPUs has what it was promised, or a dash where nothing was promised
-abbrev pub all_kept_cell : Option ℕ → Bool → List ℕ
-all_kept_cell None breaks = right 6 (codes "-")
-all_kept_cell (Some ns) breaks = right 6 (yes_or_no (not breaks))
+abbrev pub all_kept_cell : Option ℕ → Bool → Bool → List ℕ
+all_kept_cell None refused breaks = right 6 (codes "-")
+all_kept_cell (Some ns) refused breaks = right 6 (kept_word refused (not breaks))
 
 -- the cells of a VM: how many vCPUs it has, their shares together, and the longest of their waits
 unfoldable pub vm_cells : ℕ → ℕ → List ℕ → ℕ → ℕ → ℕ → List ℕ
@@ -127,32 +126,32 @@ vm_cells tick width vm count share wait = left width vm ++ (count_cell 7 count
     ++ (percent_cell 5 share ++ (wait_cell tick wait ++ codes " ")))
 
 -- the cells of a VM beside what was asked for and promised
-unfoldable pub asked_vm_cells : ℕ → ℕ → List ℕ → ℕ → ℕ → ℕ → ℕ → Option ℕ → Bool → List ℕ
-asked_vm_cells tick width vm count asked share wait promised breaks = left width vm ++ (count_cell 7 count
+unfoldable pub asked_vm_cells : ℕ → ℕ → List ℕ → ℕ → ℕ → ℕ → ℕ → Option ℕ → Bool → Bool → List ℕ
+asked_vm_cells tick width vm count asked share wait promised refused breaks = left width vm ++ (count_cell 7 count
     ++ (sum_cell promised asked ++ (percent_cell 5 share ++ (wait_cell tick wait
-    ++ (least_latency_cell promised ++ (all_kept_cell promised breaks ++ codes " "))))))
+    ++ (least_latency_cell promised ++ (all_kept_cell promised refused breaks ++ codes " "))))))
 
--- the cells of a VM of these vCPUs
-abbrev pub vm_figures : Option (List Vcpu) → ℕ → ℕ → List (List ℕ) → List Task → List Stretch → List ℕ → List ℕ
-vm_figures None tick width names tasks slots vm =
-    vm_cells tick width vm (count_where (is_of_vm names vm) (length tasks))
-    (sum_in (λ v. share_in (slice_get tasks v)) names vm (length tasks))
-    (most_in (wait_of slots) names vm (length tasks))
-vm_figures (Some vcpus) tick width names tasks slots vm =
-    asked_vm_cells tick width vm (count_where (is_of_vm names vm) (length tasks))
-    (sum_in (λ v. asked_ppm (asked_at vcpus names v)) names vm (length tasks))
-    (sum_in (λ v. share_in (slice_get tasks v)) names vm (length tasks))
-    (most_in (wait_of slots) names vm (length tasks)) (least_in vcpus names vm (length tasks))
-    (any_below (vm_breaks tick vcpus names vm tasks slots) (length tasks))
+-- the cells of a VM of so many vCPUs
+abbrev pub vm_figures : Option (List Vcpu) → Bool → ℕ → ℕ → List (List ℕ) → ℕ → List Stretch → List ℕ → List ℕ
+vm_figures None refused tick width names count slots vm =
+    vm_cells tick width vm (count_where (is_of_vm names vm) count)
+    (sum_in (given_share slots) names vm count)
+    (most_in (wait_of slots) names vm count)
+vm_figures (Some vcpus) refused tick width names count slots vm =
+    asked_vm_cells tick width vm (count_where (is_of_vm names vm) count)
+    (sum_in (λ v. asked_ppm (asked_at vcpus names v)) names vm count)
+    (sum_in (given_share slots) names vm count)
+    (most_in (wait_of slots) names vm count) (least_in vcpus names vm count) refused
+    (any_below (vm_breaks tick vcpus names vm slots) count)
 
 -- the row of a VM
-abbrev pub named_vm_row : Option (List Vcpu) → ℕ → ℕ → List (List ℕ) → List Task → List Stretch → ℕ → List ℕ → List ℕ
-named_vm_row host tick width names tasks slots cores vm =
-    vm_figures host tick width names tasks slots vm
+abbrev pub named_vm_row : Option (List Vcpu) → Bool → ℕ → ℕ → List (List ℕ) → List Task → List Stretch → ℕ → List ℕ → List ℕ
+named_vm_row host refused tick width names tasks slots cores vm =
+    vm_figures host refused tick width names (length tasks) slots vm
     ++ (texts_below (vm_core names vm slots (length tasks)) cores ++ codes "\n")
 
 -- the row of the VM whose first vCPU has this number; other vCPUs have none
-abbrev pub vm_row : Option (List Vcpu) → ℕ → ℕ → List (List ℕ) → List Task → List Stretch → ℕ → ℕ → List ℕ
-vm_row host tick width names tasks slots cores v =
+abbrev pub vm_row : Option (List Vcpu) → Bool → ℕ → ℕ → List (List ℕ) → List Task → List Stretch → ℕ → ℕ → List ℕ
+vm_row host refused tick width names tasks slots cores v =
     if any_below (is_of_vm names (vm_of (name_at names v))) v then []
-    else named_vm_row host tick width names tasks slots cores (vm_of (name_at names v))
+    else named_vm_row host refused tick width names tasks slots cores (vm_of (name_at names v))

@@ -2,6 +2,7 @@ pub mod Data
 pub mod Diff
 pub mod DiffData
 pub mod Figures
+pub mod Given
 pub mod Groups
 pub mod Inside
 pub mod Loads

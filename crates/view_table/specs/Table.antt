@@ -1,5 +1,5 @@
 -- The tables of a plan: a row for each of its vCPUs, and one for each of its cores.
-use Rattle.std.specs.Prelude.{ℕ, zero, suc, ◌*◌, ◌-◌, ◌/◌, ◌++◌, ◌==◌, ◌&&◌, nat_lt, nat_le, Bool, true, false, if◌then◌else◌, max, List, [], ◌∷◌, codes, decimal, length, Option, Some, None, slice_get}
+use Rattle.std.specs.Prelude.{ℕ, ◌*◌, ◌-◌, ◌/◌, ◌++◌, ◌==◌, ◌&&◌, nat_lt, nat_le, Bool, if◌then◌else◌, List, [], ◌∷◌, codes, decimal, Option, Some, None, slice_get}
 use Rattle.std.specs.Str.{bytes_eq}
 use Rattle.tab_core.specs.declared.TheConstants.{ROUND, WHOLE_PPM}
 use Rattle.tab_core.specs.declared.reservation.Reservation.{Reservation}
@@ -8,10 +8,10 @@ use Rattle.tab_words.specs.Texts.{texts_below}
 use Rattle.vcpu_names.specs.Names.{name_at}
 use Rattle.view_doc.specs.declared.view.Stretch.{Stretch}
 use Rattle.view_doc.specs.declared.view.Task.{Task}
-use Rattle.view_doc.specs.declared.view.View.{View}
-use Rattle.view_cells.specs.Cells.{count_cell, left, millis_cell, percent_cell, right, width_below, yes_or_no}
+use Rattle.view_cells.specs.Cells.{count_cell, left, millis_cell, percent_cell, right, yes_or_no}
+use Rattle.view_table.specs.Given.{figure_at, given_to}
 use Rattle.view_table.specs.Loads.{has_slot_on, load_of_core}
-use Rattle.view_table.specs.Waits.{wait_of}
+use Rattle.view_table.specs.declared.figures.Figure.{Figure}
 
 -- ---- numbers
 
@@ -22,6 +22,10 @@ task_share t = if t.period == 0 then 0 else t.cost * WHOLE_PPM / t.period
 -- ticks as parts per million of a round, rounded down
 abbrev pub of_round : ℕ → ℕ
 of_round ticks = ticks * WHOLE_PPM / ROUND
+
+-- what the slots give the vCPU of a number of a core, in parts per million, rounded down
+abbrev pub given_share : List Stretch → ℕ → ℕ
+given_share slots v = of_round (given_to slots v)
 
 -- what a host's vCPU of this name has reserved, if one of this name is admitted
 abbrev pub asked_of : List Vcpu → List ℕ → Option Reservation
@@ -49,10 +53,15 @@ abbrev pub promised_cell : Option Reservation → List ℕ
 promised_cell None = right 13 (codes "-")
 promised_cell (Some r) = millis_cell 9 r.latency_ns
 
+-- whether all was kept, which is open where the tables are refused
+abbrev pub kept_word : Bool → Bool → List ℕ
+kept_word refused kept = if refused then codes "?" else yes_or_no kept
+
 -- whether all was kept, or a dash
-abbrev pub kept_cell : ℕ → Option Reservation → ℕ → ℕ → List ℕ
-kept_cell tick None share wait = right 6 (codes "-")
-kept_cell tick (Some r) share wait = right 6 (yes_or_no (is_promise_kept tick r share wait))
+abbrev pub kept_cell : ℕ → Option Reservation → Figure → List ℕ
+kept_cell tick None f = right 6 (codes "-")
+kept_cell tick (Some r) f =
+    right 6 (kept_word f.is_refused (is_promise_kept tick r (of_round f.given) f.wait))
 
 -- a core where the vCPU has a slot
 abbrev pub core_word : List Stretch → ℕ → ℕ → List ℕ
@@ -71,31 +80,31 @@ table_head (Some vcpus) =
     codes "   asked %   given %  period ms    wait ms  promised ms  kept  cores\n"
 
 -- the cells of a vCPU's row, with its longest wait
-unfoldable pub plain_cells : ℕ → ℕ → List ℕ → Task → ℕ → List ℕ
-plain_cells tick width name t wait = left width name ++ (percent_cell 5 (task_share t)
-    ++ (millis_cell 7 (t.period * tick) ++ wait_cell tick wait))
+unfoldable pub plain_cells : ℕ → ℕ → List ℕ → Task → Figure → List ℕ
+plain_cells tick width name t f = left width name ++ (percent_cell 5 (of_round f.given)
+    ++ (millis_cell 7 (t.period * tick) ++ wait_cell tick f.wait))
 
 -- the cells of a vCPU's row beside what was asked for
-unfoldable pub asked_cells : ℕ → ℕ → List ℕ → Task → ℕ → Option Reservation → List ℕ
-asked_cells tick width name t wait r = left width name ++ (asked_cell r ++ (percent_cell 5 (task_share t)
-    ++ (millis_cell 7 (t.period * tick) ++ (wait_cell tick wait
-    ++ (promised_cell r ++ kept_cell tick r (task_share t) wait)))))
+unfoldable pub asked_cells : ℕ → ℕ → List ℕ → Task → Figure → Option Reservation → List ℕ
+asked_cells tick width name t f r = left width name ++ (asked_cell r ++ (percent_cell 5 (of_round f.given)
+    ++ (millis_cell 7 (t.period * tick) ++ (wait_cell tick f.wait
+    ++ (promised_cell r ++ kept_cell tick r f)))))
 
 -- the cells of a vCPU's row, with what was asked for where there is a host
-abbrev pub row_cells : Option (List Vcpu) → ℕ → ℕ → List ℕ → Task → ℕ → List ℕ
-row_cells None tick width name t wait = plain_cells tick width name t wait
-row_cells (Some vcpus) tick width name t wait = asked_cells tick width name t wait (asked_of vcpus name)
+abbrev pub row_cells : Option (List Vcpu) → ℕ → ℕ → List ℕ → Task → Figure → List ℕ
+row_cells None tick width name t f = plain_cells tick width name t f
+row_cells (Some vcpus) tick width name t f = asked_cells tick width name t f (asked_of vcpus name)
 
 -- the row of the vCPU of a number, if it has a line in the plan
-abbrev pub table_row_of : Option (List Vcpu) → ℕ → ℕ → List (List ℕ) → List Stretch → ℕ → ℕ → Option Task → List ℕ
-table_row_of host tick width names slots cores v None = []
-table_row_of host tick width names slots cores v (Some t) =
-    row_cells host tick width (name_at names v) t (wait_of slots v) ++ cores_cell slots cores v
+abbrev pub table_row_of : Option (List Vcpu) → Bool → ℕ → ℕ → List (List ℕ) → List Stretch → ℕ → ℕ → Option Task → List ℕ
+table_row_of host refused tick width names slots cores v None = []
+table_row_of host refused tick width names slots cores v (Some t) =
+    row_cells host tick width (name_at names v) t (figure_at slots refused v) ++ cores_cell slots cores v
 
 -- the row of the vCPU of a number of these tasks
-abbrev pub table_row : Option (List Vcpu) → ℕ → ℕ → List (List ℕ) → List Task → List Stretch → ℕ → ℕ → List ℕ
-table_row host tick width names tasks slots cores v =
-    table_row_of host tick width names slots cores v (slice_get tasks v)
+abbrev pub table_row : Option (List Vcpu) → Bool → ℕ → ℕ → List (List ℕ) → List Task → List Stretch → ℕ → ℕ → List ℕ
+table_row host refused tick width names tasks slots cores v =
+    table_row_of host refused tick width names slots cores v (slice_get tasks v)
 
 -- the row of a core: its load, and what is left of a round
 unfoldable pub core_cells : ℕ → ℕ → List ℕ

@@ -1,22 +1,22 @@
 -- The last line of a plan's tables: its vCPUs and its cores together.
-use Rattle.std.specs.Prelude.{ℕ, ◌*◌, ◌/◌, ◌++◌, ◌==◌, ◌&&◌, Bool, true, false, not, if◌then◌else◌, List, codes, length, Option, Some, None, slice_get}
+use Rattle.std.specs.Prelude.{ℕ, ◌*◌, ◌/◌, ◌++◌, ◌==◌, ◌&&◌, Bool, true, false, not, if◌then◌else◌, List, codes, length, Option, Some, None}
 use Rattle.tab_core.specs.declared.TheConstants.{ROUND, WHOLE_PPM}
 use Rattle.tab_core.specs.declared.reservation.Reservation.{Reservation}
 use Rattle.tab_core.specs.declared.vcpu.Vcpu.{Vcpu}
 use Rattle.view_cells.specs.Cells.{count_cell, percent_cell}
 use Rattle.view_doc.specs.declared.view.Stretch.{Stretch}
-use Rattle.view_doc.specs.declared.view.Task.{Task}
 use Rattle.view_doc.specs.declared.view.View.{View}
-use Rattle.view_table.specs.Groups.{asked_at, asked_ppm, count_where, is_broken, share_in, sum_where}
+use Rattle.view_table.specs.Groups.{asked_at, asked_ppm, count_where, is_broken, sum_where}
 use Rattle.view_table.specs.Loads.{load_of_core}
+use Rattle.view_table.specs.Table.{given_share}
 
 -- the test that each vCPU passes
 abbrev pub each : ℕ → Bool
 each v = true
 
 -- the shares of the vCPUs below n together
-abbrev pub given_below : List Task → ℕ → ℕ
-given_below tasks n = sum_where each (λ v. share_in (slice_get tasks v)) n
+abbrev pub given_below : List Stretch → ℕ → ℕ
+given_below slots n = sum_where each (given_share slots) n
 
 -- the shares together that the host has for the vCPUs below n, in parts per million
 abbrev pub asked_below : List Vcpu → List (List ℕ) → ℕ → ℕ
@@ -32,9 +32,9 @@ abbrev pub is_share_asked : List Vcpu → List (List ℕ) → ℕ → Bool
 is_share_asked vcpus names v = is_asked (asked_at vcpus names v)
 
 -- the vCPU of a number is admitted, and has what it was promised
-abbrev pub has_all : ℕ → List Vcpu → List (List ℕ) → List Task → List Stretch → ℕ → Bool
-has_all tick vcpus names tasks slots v =
-    is_share_asked vcpus names v && not (is_broken tick vcpus names tasks slots v)
+abbrev pub has_all : ℕ → List Vcpu → List (List ℕ) → List Stretch → ℕ → Bool
+has_all tick vcpus names slots v =
+    is_share_asked vcpus names v && not (is_broken tick vcpus names slots v)
 
 -- the ticks of the slots of these cores
 abbrev pub busy_below : List Stretch → ℕ → ℕ
@@ -51,25 +51,29 @@ unfoldable pub plain_total : ℕ → ℕ → ℕ → List ℕ
 plain_total vcpus given full = codes "\ntotal: vCPUs " ++ (count_cell 0 vcpus ++ (codes ", given " ++ (percent_cell 0 given
     ++ (codes " %, load " ++ (percent_cell 0 full ++ codes " %\n")))))
 
+-- how many have all that they were promised, which is open where the tables are refused
+abbrev pub kept_count : Bool → ℕ → List ℕ
+kept_count refused kept = if refused then codes "?" else count_cell 0 kept
+
 -- the total beside what was asked for, with how many of those that are admitted have all that they were
 -- promised
-unfoldable pub asked_total : ℕ → ℕ → ℕ → ℕ → ℕ → ℕ → List ℕ
-asked_total vcpus asked given full kept admitted = codes "\ntotal: vCPUs " ++ (count_cell 0 vcpus
+unfoldable pub asked_total : ℕ → ℕ → ℕ → ℕ → Bool → ℕ → ℕ → List ℕ
+asked_total vcpus asked given full refused kept admitted = codes "\ntotal: vCPUs " ++ (count_cell 0 vcpus
     ++ (codes ", asked " ++ (percent_cell 0 asked ++ (codes " %, given " ++ (percent_cell 0 given
-    ++ (codes " %, load " ++ (percent_cell 0 full ++ (codes " %, kept " ++ (count_cell 0 kept ++ (codes " of "
+    ++ (codes " %, load " ++ (percent_cell 0 full ++ (codes " %, kept " ++ (kept_count refused kept ++ (codes " of "
     ++ (count_cell 0 admitted ++ codes "\n")))))))))))
 
--- the line of a plan of these vCPUs and cores
-abbrev pub total_of : Option (List Vcpu) → ℕ → List (List ℕ) → List Task → List Stretch → ℕ → List ℕ
-total_of None tick names tasks slots cores =
-    plain_total (length tasks) (given_below tasks (length tasks)) (full_of (busy_below slots cores) cores)
-total_of (Some vcpus) tick names tasks slots cores =
-    asked_total (length tasks) (asked_below vcpus names (length tasks)) (given_below tasks (length tasks))
-    (full_of (busy_below slots cores) cores)
-    (count_where (has_all tick vcpus names tasks slots) (length tasks))
-    (count_where (is_share_asked vcpus names) (length tasks))
+-- the line of a plan of so many vCPUs and cores
+abbrev pub total_of : Option (List Vcpu) → Bool → ℕ → List (List ℕ) → ℕ → List Stretch → ℕ → List ℕ
+total_of None refused tick names count slots cores =
+    plain_total count (given_below slots count) (full_of (busy_below slots cores) cores)
+total_of (Some vcpus) refused tick names count slots cores =
+    asked_total count (asked_below vcpus names count) (given_below slots count)
+    (full_of (busy_below slots cores) cores) refused
+    (count_where (has_all tick vcpus names slots) count)
+    (count_where (is_share_asked vcpus names) count)
 
 -- the line of totals of a view
-abbrev pub total_text : Option (List Vcpu) → ℕ → View → List ℕ
-total_text host tick view =
-    total_of host tick view.names.items view.tasks.items view.slots.items view.cores
+abbrev pub total_text : Option (List Vcpu) → Bool → ℕ → View → List ℕ
+total_text host refused tick view =
+    total_of host refused tick view.names.items (length view.tasks.items) view.slots.items view.cores

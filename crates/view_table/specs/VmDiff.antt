@@ -1,5 +1,5 @@
 -- What differs between two plans by virtual machine: a line for each thing.
-use Rattle.std.specs.Prelude.{ℕ, ◌++◌, ◌==◌, Bool, if◌then◌else◌, min, List, [], codes, length, slice_get}
+use Rattle.std.specs.Prelude.{ℕ, ◌++◌, Bool, if◌then◌else◌, min, List, [], codes, length, slice_get}
 use Rattle.view_cells.specs.Cells.{count_cell}
 use Rattle.tab_words.specs.Texts.{texts_below}
 use Rattle.view_doc.specs.declared.view.View.{View}

@@ -5,25 +5,25 @@ ghost use Rattle.tab_words.specs.Pieces.{piece_text};
 ghost use Rattle.tab_words.specs.Texts.{texts_below};
 ghost use Rattle.vcpu_names.specs.Names.{name_at as name_of};
 ghost use Rattle.view_cells.specs.CellTexts.{comma_before, truth_text};
-ghost use Rattle.view_table.specs.Data.{asked_by, core_data, csv_facts, csv_home, csv_kept, csv_row, csv_shares, csv_times, json_facts, json_home, json_kept, json_loads_begin, json_row, json_shares, json_times, latency_or, load_data, number_or, part_before, share_or, table_csv, table_csv_head, table_json, table_json_begin, vcpu_csv, vcpu_json, wait_or};
+ghost use Rattle.view_table.specs.Data.{asked_by, core_data, csv_facts, csv_home, csv_kept, csv_row, csv_shares, csv_times, json_end, json_facts, json_home, json_kept, json_loads_begin, json_refusal, json_row, json_shares, json_times, kept_value, latency_or, load_data, number_or, part_before, share_or, table_csv, table_csv_head, table_json, table_json_begin, vcpu_csv, vcpu_json, wait_or};
 ghost use Rattle.view_table.specs.Figures.{AreFigures};
+ghost use Rattle.view_table.specs.Given.{figure_at, is_refused};
 ghost use Rattle.view_table.specs.Groups.{any_below};
 ghost use Rattle.view_table.specs.Loads.{has_slot_on, load_of_core};
 ghost use Rattle.view_table.specs.Table.{of_round};
 ghost use Rattle.view_table.specs.Waits.{wait_of};
 
-use crate::diff::figure_of;
-use crate::figures::Figures;
-use crate::rows::{asked_of, is_kept, load_of, loads_of, name_at, of_round, share_of};
+use crate::figures::{Figure, Figures, figure_at};
+use crate::rows::{asked_of, has_promise, kept_word, load_of, loads_of, name_at, of_round};
 use tab_core::{MAX_CORES, ROUND, Reservation, Vcpu};
 use tab_io::{Sink, WriteFault, write_all};
 use tab_words::{TextPiece, put_number, put_numbered, put_pieces};
-use view_cells::yes_or_no;
 use view_doc::{Stretch, Task, View};
 
 /// Writes the vCPUs of a plan, whose figures these are, and the loads of its cores as JSON, in one line. Times are in
 /// nanoseconds, for a tick of so many, and shares and loads in parts per million. Where there is no host, or it admits
-/// no vCPU of the name, and where a wait has no end, the value is null.
+/// no vCPU of the name, and where a wait has no end, the value is null. Where `tableau check` refuses the tables, whether
+/// the plan keeps what was promised is null, and the last member is its line.
 ///
 /// A fault leaves a prefix of the text in the sink. Nothing is settled, and nothing is allocated.
 pub fn write_table_json<K: Sink>(
@@ -36,18 +36,19 @@ pub fn write_table_json<K: Sink>(
     requires figures { AreFigures view.now figures.now }
     requires few { view.now.cores ≤ MAX_CORES }
     ensures { Writes (K.state sink.old) (K.state sink.new)
-        (table_json (option_copied host.entry) tick_ns view.now) result }
+        (table_json (option_copied host.entry) figures.now.refusal.items tick_ns view.now) result }
 {
     put_begin(sink, tick_ns)?;
     put_json_rows(sink, host, view, figures, tick_ns)?;
     put_load_head(sink)?;
     put_loads(sink, view)?;
-    write_all(sink, b"]}\n")
+    put_json_end(sink, &figures.refusal)
 }
 
 /// Writes the vCPUs of a plan, whose figures these are, as comma-separated values, after a line with the columns'
 /// names. Times are in nanoseconds, for a tick of so many, and shares in parts per million. What there isn't is empty,
-/// and between two cores is a space.
+/// and between two cores is a space. Where `tableau check` refuses the tables, whether the plan keeps what was promised
+/// is a question mark.
 ///
 /// A fault leaves a prefix of the text in the sink. Nothing is settled, and nothing is allocated.
 pub fn write_table_csv<K: Sink>(
@@ -60,7 +61,7 @@ pub fn write_table_csv<K: Sink>(
     requires figures { AreFigures view.now figures.now }
     requires few { view.now.cores ≤ MAX_CORES }
     ensures { Writes (K.state sink.old) (K.state sink.new)
-        (table_csv (option_copied host.entry) tick_ns view.now) result }
+        (table_csv (option_copied host.entry) (is_refused figures.now.refusal.items) tick_ns view.now) result }
 {
     put_csv_head(sink)?;
     put_csv_rows(sink, host, view, figures, tick_ns)
@@ -77,6 +78,31 @@ fn put_load_head<K: Sink>(sink: &mut K) -> Result<(), WriteFault>
     ensures { Writes (K.state sink.old) (K.state sink.new) json_loads_begin result }
 {
     write_all(sink, b"],\"load_ppm\":[")
+}
+
+// Writes what is after the loads.
+fn put_json_end<K: Sink>(sink: &mut K, refusal: &[u8]) -> Result<(), WriteFault>
+    ensures { Writes (K.state sink.old) (K.state sink.new) (json_end refusal.now) result }
+{
+    if refusal.is_empty() {
+        write_all(sink, b"]}\n")
+    } else {
+        put_json_refusal(sink, refusal)
+    }
+}
+
+#[tactic(auto, unfolding(crate::specs::Data::json_refusal))]
+fn put_json_refusal<K: Sink>(sink: &mut K, refusal: &[u8]) -> Result<(), WriteFault>
+    ensures { Writes (K.state sink.old) (K.state sink.new) (json_refusal refusal.now) result }
+{
+    put_pieces(
+        sink,
+        &[
+            TextPiece::Text(b"],\"refused\":\""),
+            TextPiece::Text(refusal),
+            TextPiece::Text(b"\"}\n"),
+        ],
+    )
 }
 
 fn put_csv_head<K: Sink>(sink: &mut K) -> Result<(), WriteFault>
@@ -99,7 +125,8 @@ fn put_json_rows<K: Sink>(
     requires figures { AreFigures view.now figures.now }
     requires few { view.now.cores ≤ MAX_CORES }
     ensures { Writes (K.state sink.old) (K.state sink.new)
-        (texts_below (json_row (option_copied host.entry) tick_ns view.now) (length view.now.tasks.items)) result }
+        (texts_below (json_row (option_copied host.entry) (is_refused figures.now.refusal.items) tick_ns view.now)
+        (length view.now.tasks.items)) result }
 {
     for vcpu in 0..view.tasks.len() {
         put_json_row(sink, host, view, figures, tick_ns, vcpu)?;
@@ -119,7 +146,7 @@ fn put_json_row<K: Sink>(
     requires few { view.now.cores ≤ MAX_CORES }
     requires low { vcpu < length view.now.tasks.items }
     ensures { Writes (K.state sink.old) (K.state sink.new)
-        (json_row (option_copied host.entry) tick_ns view.now vcpu) result }
+        (json_row (option_copied host.entry) (is_refused figures.now.refusal.items) tick_ns view.now vcpu) result }
 {
     put_object(sink, host, view, figures, tick_ns, vcpu, &view.tasks[vcpu])
 }
@@ -137,8 +164,8 @@ fn put_object<K: Sink>(
     requires figures { AreFigures view.now figures.now }
     requires few { view.now.cores ≤ MAX_CORES }
     requires low { vcpu < length view.now.tasks.items }
-    ensures { Writes (K.state sink.old) (K.state sink.new) (vcpu_json (option_copied host.entry) tick_ns
-        view.now.names.items view.now.slots.items view.now.cores vcpu (Some task.now)) result }
+    ensures { Writes (K.state sink.old) (K.state sink.new)
+        (vcpu_json (option_copied host.entry) (is_refused figures.now.refusal.items) tick_ns view.now.names.items view.now.slots.items view.now.cores vcpu (Some task.now)) result }
 {
     put_comma(sink, vcpu)?;
     put_json_named(sink, host, view, figures, tick_ns, vcpu, task)?;
@@ -159,12 +186,12 @@ fn put_json_named<K: Sink>(
     requires low { vcpu < length view.now.tasks.items }
     ensures { Writes (K.state sink.old) (K.state sink.new) (json_facts tick_ns (name_of view.now.names.items vcpu)
         (asked_by (option_copied host.entry) (name_of view.now.names.items vcpu)) task.now
-        (wait_of view.now.slots.items vcpu)) result }
+        (figure_at view.now.slots.items (is_refused figures.now.refusal.items) vcpu)) result }
 {
     let name = name_at(&view.names, vcpu);
     let asked = asked_by(host, name);
-    let wait = figure_of(view, figures, vcpu);
-    put_json_facts(sink, tick_ns, name, &asked, task, wait)
+    let figure = figure_at(view, figures, vcpu);
+    put_json_facts(sink, tick_ns, name, &asked, task, figure)
 }
 
 pub(crate) fn put_comma<K: Sink>(sink: &mut K, number: usize) -> Result<(), WriteFault>
@@ -184,25 +211,25 @@ fn put_json_facts<K: Sink>(
     name: &[u8],
     asked: &Option<Reservation>,
     task: &Task,
-    wait: u32,
+    figure: Figure,
 ) -> Result<(), WriteFault>
     ensures { Writes (K.state sink.old) (K.state sink.new)
-        (json_facts tick_ns name.now asked.now task.now wait) result }
+        (json_facts tick_ns name.now asked.now task.now figure) result }
 {
-    put_json_shares(sink, name, asked, task)?;
-    put_json_times(sink, tick_ns, asked, task, wait)?;
-    put_json_home(sink, tick_ns, asked, task, wait)
+    put_json_shares(sink, name, asked, figure)?;
+    put_json_times(sink, tick_ns, asked, task, figure.wait)?;
+    put_json_home(sink, tick_ns, asked, task, figure)
 }
 
 fn put_json_shares<K: Sink>(
     sink: &mut K,
     name: &[u8],
     asked: &Option<Reservation>,
-    task: &Task,
+    figure: Figure,
 ) -> Result<(), WriteFault>
-    ensures { Writes (K.state sink.old) (K.state sink.new) (json_shares name.now asked.now task.now) result }
+    ensures { Writes (K.state sink.old) (K.state sink.new) (json_shares name.now asked.now figure) result }
 {
-    let share = share_of(task);
+    let share = of_round(figure.given);
     let asked_share = share_or(asked);
     let asked_piece = number_or(b"null", asked_share);
     put_pieces(
@@ -252,12 +279,11 @@ fn put_json_home<K: Sink>(
     tick_ns: u32,
     asked: &Option<Reservation>,
     task: &Task,
-    wait: u32,
+    figure: Figure,
 ) -> Result<(), WriteFault>
-    ensures { Writes (K.state sink.old) (K.state sink.new) (json_home tick_ns asked.now task.now wait) result }
+    ensures { Writes (K.state sink.old) (K.state sink.new) (json_home tick_ns asked.now task.now figure) result }
 {
-    let share = share_of(task);
-    let kept = json_kept(tick_ns, asked, share, wait);
+    let kept = json_kept(tick_ns, asked, figure);
     let home = home_piece(task);
     put_pieces(
         sink,
@@ -282,7 +308,8 @@ fn put_csv_rows<K: Sink>(
     requires figures { AreFigures view.now figures.now }
     requires few { view.now.cores ≤ MAX_CORES }
     ensures { Writes (K.state sink.old) (K.state sink.new)
-        (texts_below (csv_row (option_copied host.entry) tick_ns view.now) (length view.now.tasks.items)) result }
+        (texts_below (csv_row (option_copied host.entry) (is_refused figures.now.refusal.items) tick_ns view.now)
+        (length view.now.tasks.items)) result }
 {
     for vcpu in 0..view.tasks.len() {
         put_csv_row(sink, host, view, figures, tick_ns, vcpu)?;
@@ -302,7 +329,7 @@ fn put_csv_row<K: Sink>(
     requires few { view.now.cores ≤ MAX_CORES }
     requires low { vcpu < length view.now.tasks.items }
     ensures { Writes (K.state sink.old) (K.state sink.new)
-        (csv_row (option_copied host.entry) tick_ns view.now vcpu) result }
+        (csv_row (option_copied host.entry) (is_refused figures.now.refusal.items) tick_ns view.now vcpu) result }
 {
     put_csv_line(sink, host, view, figures, tick_ns, vcpu, &view.tasks[vcpu])
 }
@@ -320,8 +347,8 @@ fn put_csv_line<K: Sink>(
     requires figures { AreFigures view.now figures.now }
     requires few { view.now.cores ≤ MAX_CORES }
     requires low { vcpu < length view.now.tasks.items }
-    ensures { Writes (K.state sink.old) (K.state sink.new) (vcpu_csv (option_copied host.entry) tick_ns
-        view.now.names.items view.now.slots.items view.now.cores vcpu (Some task.now)) result }
+    ensures { Writes (K.state sink.old) (K.state sink.new)
+        (vcpu_csv (option_copied host.entry) (is_refused figures.now.refusal.items) tick_ns view.now.names.items view.now.slots.items view.now.cores vcpu (Some task.now)) result }
 {
     put_csv_named(sink, host, view, figures, tick_ns, vcpu, task)?;
     put_core_list(sink, view, figures, vcpu, b" ")?;
@@ -341,12 +368,12 @@ fn put_csv_named<K: Sink>(
     requires low { vcpu < length view.now.tasks.items }
     ensures { Writes (K.state sink.old) (K.state sink.new) (csv_facts tick_ns (name_of view.now.names.items vcpu)
         (asked_by (option_copied host.entry) (name_of view.now.names.items vcpu)) task.now
-        (wait_of view.now.slots.items vcpu)) result }
+        (figure_at view.now.slots.items (is_refused figures.now.refusal.items) vcpu)) result }
 {
     let name = name_at(&view.names, vcpu);
     let asked = asked_by(host, name);
-    let wait = figure_of(view, figures, vcpu);
-    put_csv_facts(sink, tick_ns, name, &asked, task, wait)
+    let figure = figure_at(view, figures, vcpu);
+    put_csv_facts(sink, tick_ns, name, &asked, task, figure)
 }
 
 // Writes a vCPU's row up to its cores.
@@ -356,25 +383,25 @@ fn put_csv_facts<K: Sink>(
     name: &[u8],
     asked: &Option<Reservation>,
     task: &Task,
-    wait: u32,
+    figure: Figure,
 ) -> Result<(), WriteFault>
     ensures { Writes (K.state sink.old) (K.state sink.new)
-        (csv_facts tick_ns name.now asked.now task.now wait) result }
+        (csv_facts tick_ns name.now asked.now task.now figure) result }
 {
-    put_csv_shares(sink, name, asked, task)?;
-    put_csv_times(sink, tick_ns, asked, task, wait)?;
-    put_csv_home(sink, tick_ns, asked, task, wait)
+    put_csv_shares(sink, name, asked, figure)?;
+    put_csv_times(sink, tick_ns, asked, task, figure.wait)?;
+    put_csv_home(sink, tick_ns, asked, task, figure)
 }
 
 fn put_csv_shares<K: Sink>(
     sink: &mut K,
     name: &[u8],
     asked: &Option<Reservation>,
-    task: &Task,
+    figure: Figure,
 ) -> Result<(), WriteFault>
-    ensures { Writes (K.state sink.old) (K.state sink.new) (csv_shares name.now asked.now task.now) result }
+    ensures { Writes (K.state sink.old) (K.state sink.new) (csv_shares name.now asked.now figure) result }
 {
-    let share = share_of(task);
+    let share = of_round(figure.given);
     let asked_share = share_or(asked);
     let asked_piece = number_or(b"", asked_share);
     put_pieces(
@@ -422,12 +449,11 @@ fn put_csv_home<K: Sink>(
     tick_ns: u32,
     asked: &Option<Reservation>,
     task: &Task,
-    wait: u32,
+    figure: Figure,
 ) -> Result<(), WriteFault>
-    ensures { Writes (K.state sink.old) (K.state sink.new) (csv_home tick_ns asked.now task.now wait) result }
+    ensures { Writes (K.state sink.old) (K.state sink.new) (csv_home tick_ns asked.now task.now figure) result }
 {
-    let share = share_of(task);
-    let kept = csv_kept(tick_ns, asked, share, wait);
+    let kept = csv_kept(tick_ns, asked, figure);
     let home = home_piece(task);
     put_pieces(
         sink,
@@ -502,12 +528,23 @@ pub(crate) fn wait_or(tick_ns: u32, wait: u32) -> Option<u64>
     }
 }
 
-fn json_kept(tick_ns: u32, asked: &Option<Reservation>, share: u64, wait: u32) -> &'static [u8]
-    ensures { result.now ≡ json_kept tick_ns asked.now share wait }
+fn json_kept(tick_ns: u32, asked: &Option<Reservation>, figure: Figure) -> &'static [u8]
+    ensures { result.now ≡ json_kept tick_ns asked.now figure }
 {
     match asked {
-        Some(r) => truth_text(is_kept(tick_ns, r, share, wait)),
+        Some(r) => kept_value(figure.is_refused, has_promise(tick_ns, r, figure)),
         None => b"null",
+    }
+}
+
+// Whether all was kept, which is open where the tables are refused.
+fn kept_value(is_refused: bool, is_kept: bool) -> &'static [u8]
+    ensures { result.now ≡ kept_value is_refused is_kept }
+{
+    if is_refused {
+        b"null"
+    } else {
+        truth_text(is_kept)
     }
 }
 
@@ -517,11 +554,11 @@ fn truth_text(truth: bool) -> &'static [u8]
     if truth { b"true" } else { b"false" }
 }
 
-fn csv_kept(tick_ns: u32, asked: &Option<Reservation>, share: u64, wait: u32) -> &'static [u8]
-    ensures { result.now ≡ csv_kept tick_ns asked.now share wait }
+fn csv_kept(tick_ns: u32, asked: &Option<Reservation>, figure: Figure) -> &'static [u8]
+    ensures { result.now ≡ csv_kept tick_ns asked.now figure }
 {
     match asked {
-        Some(r) => yes_or_no(is_kept(tick_ns, r, share, wait)),
+        Some(r) => kept_word(figure.is_refused, has_promise(tick_ns, r, figure)),
         None => &[],
     }
 }

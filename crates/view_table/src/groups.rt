@@ -5,25 +5,29 @@ ghost use Rattle.tab_words.specs.Texts.{texts_below};
 ghost use Rattle.vcpu_names.specs.Names.{name_at};
 ghost use Rattle.view_table.specs.Figures.{AreFigures};
 ghost use Rattle.view_table.specs.Groups.{all_kept_cell, any_below, asked_at, asked_ppm, count_where, is_broken, is_broken_by, is_of_vm, least_in, least_latency_cell, lesser, most_in, named_vm_row, share_in, sum_cell, sum_in, vm_breaks, vm_core, vm_figures, vm_head, vm_of, vm_row, vm_stands};
-ghost use Rattle.view_table.specs.TableTexts.{vm_table_of, vm_table_text};
+ghost use Rattle.view_table.specs.Given.{is_refused};
+ghost use Rattle.view_table.specs.Table.{given_share};
+ghost use Rattle.view_table.specs.TableTexts.{vm_table_of, vm_table_text, width_in};
 ghost use Rattle.view_cells.specs.CellTexts.{cell_text};
 ghost use Rattle.view_table.specs.Waits.{wait_of};
 
 use crate::diff::figure_of;
-use crate::figures::Figures;
-use crate::rows::{asked_of, is_kept, name_at, share_of, wait_cell, width_of};
+use crate::figures::{Figures, given_at, is_refused};
+use crate::rows::{asked_of, is_kept, kept_word, name_at, of_round, share_of, wait_cell, width_of};
+use crate::table::put_refusal;
 use crate::totals::put_end;
 use tab_core::{MAX_CORES, Name, Reservation, Vcpu};
 use tab_io::{Sink, WriteFault, write_all};
 use tab_words::put_numbered;
-use view_cells::{Cell, put_cells, put_left, yes_or_no};
+use view_cells::{Cell, put_cells, put_left};
 use view_doc::View;
 
 /// Writes the tables of a plan by virtual machine: a row for each VM, which is the part of its vCPUs'
-/// names before the last dot, with how many vCPUs it has, their shares together, the longest of their
+/// names before the last dot, with how many vCPUs it has, their shares together, by the slots, the longest of their
 /// waits, and the cores where one of them has slots; then a row for each core and the line of totals. Beside a
 /// host a row has what the VM's admitted vCPUs have reserved too: their shares together and the least of their
-/// latencies, and whether each has what it was promised, or dashes where none is admitted.
+/// latencies, and whether each has what it was promised, or dashes where none is admitted. Where `tableau check` refuses
+/// the tables, its line is above all, and whether each has what it was promised is a question mark.
 ///
 /// A fault leaves a prefix of the text in the sink. Nothing is settled, and nothing is allocated.
 pub fn write_vm_table<K: Sink>(
@@ -36,7 +40,26 @@ pub fn write_vm_table<K: Sink>(
     requires figures { AreFigures view.now figures.now }
     requires few { view.now.cores ≤ MAX_CORES }
     requires vcpus { length view.now.tasks.items ≤ MAX_VCPUS }
-    ensures { Writes (K.state sink.old) (K.state sink.new) (vm_table_text (option_copied host.entry) tick_ns view.now) result }
+    ensures { Writes (K.state sink.old) (K.state sink.new)
+        (vm_table_text (option_copied host.entry) figures.now.refusal.items tick_ns view.now) result }
+{
+    put_refusal(sink, &figures.refusal)?;
+    put_wide_vm_table(sink, host, view, figures, tick_ns)
+}
+
+// Writes the tables, with names in a column of their width.
+fn put_wide_vm_table<K: Sink>(
+    sink: &mut K,
+    host: Option<&[Vcpu]>,
+    view: &View,
+    figures: &Figures,
+    tick_ns: u32,
+) -> Result<(), WriteFault>
+    requires figures { AreFigures view.now figures.now }
+    requires few { view.now.cores ≤ MAX_CORES }
+    requires vcpus { length view.now.tasks.items ≤ MAX_VCPUS }
+    ensures { Writes (K.state sink.old) (K.state sink.new) (vm_table_of (option_copied host.entry)
+        (is_refused figures.now.refusal.items) tick_ns (width_in view.now) view.now) result }
 {
     let width = width_of(&view.names, view.tasks.len());
     put_vm_table(sink, host, view, figures, tick_ns, width)
@@ -53,7 +76,8 @@ fn put_vm_table<K: Sink>(
     requires figures { AreFigures view.now figures.now }
     requires few { view.now.cores ≤ MAX_CORES }
     requires vcpus { length view.now.tasks.items ≤ MAX_VCPUS }
-    ensures { Writes (K.state sink.old) (K.state sink.new) (vm_table_of (option_copied host.entry) tick_ns width view.now) result }
+    ensures { Writes (K.state sink.old) (K.state sink.new)
+        (vm_table_of (option_copied host.entry) (is_refused figures.now.refusal.items) tick_ns width view.now) result }
 {
     put_left(sink, width, b"vm")?;
     put_vm_head(sink, &host)?;
@@ -86,8 +110,8 @@ fn put_vms<K: Sink>(
     requires few { view.now.cores ≤ MAX_CORES }
     requires vcpus { length view.now.tasks.items ≤ MAX_VCPUS }
     ensures { Writes (K.state sink.old) (K.state sink.new)
-        (texts_below (vm_row (option_copied host.entry) tick_ns width view.now.names.items view.now.tasks.items view.now.slots.items
-        view.now.cores) (length view.now.tasks.items)) result }
+        (texts_below (vm_row (option_copied host.entry) (is_refused figures.now.refusal.items) tick_ns width
+        view.now.names.items view.now.tasks.items view.now.slots.items view.now.cores) (length view.now.tasks.items)) result }
 {
     for vcpu in 0..view.tasks.len() {
         put_vm(sink, host, view, figures, tick_ns, width, vcpu)?;
@@ -109,8 +133,8 @@ fn put_vm<K: Sink>(
     requires few { view.now.cores ≤ MAX_CORES }
     requires vcpus { length view.now.tasks.items ≤ MAX_VCPUS }
     ensures { Writes (K.state sink.old) (K.state sink.new)
-        (vm_row (option_copied host.entry) tick_ns width view.now.names.items view.now.tasks.items view.now.slots.items view.now.cores vcpu)
-        result }
+        (vm_row (option_copied host.entry) (is_refused figures.now.refusal.items) tick_ns width view.now.names.items
+        view.now.tasks.items view.now.slots.items view.now.cores vcpu) result }
 {
     let vm = vm_at(&view.names, vcpu);
     if has_vm(view, vm, vcpu) {
@@ -132,8 +156,8 @@ fn put_vm_line<K: Sink>(
     requires few { view.now.cores ≤ MAX_CORES }
     requires vcpus { length view.now.tasks.items ≤ MAX_VCPUS }
     ensures { Writes (K.state sink.old) (K.state sink.new)
-        (named_vm_row (option_copied host.entry) tick_ns width view.now.names.items view.now.tasks.items view.now.slots.items view.now.cores vm.now)
-        result }
+        (named_vm_row (option_copied host.entry) (is_refused figures.now.refusal.items) tick_ns width
+        view.now.names.items view.now.tasks.items view.now.slots.items view.now.cores vm.now) result }
 {
     put_figures(sink, host, view, figures, tick_ns, width, vm)?;
     put_vm_cores(sink, view, figures, vm)?;
@@ -153,8 +177,8 @@ fn put_figures<K: Sink>(
     requires figures { AreFigures view.now figures.now }
     requires vcpus { length view.now.tasks.items ≤ MAX_VCPUS }
     ensures { Writes (K.state sink.old) (K.state sink.new)
-        (vm_figures (option_copied host.entry) tick_ns width view.now.names.items view.now.tasks.items
-        view.now.slots.items vm.now) result }
+        (vm_figures (option_copied host.entry) (is_refused figures.now.refusal.items) tick_ns width
+        view.now.names.items (length view.now.tasks.items) view.now.slots.items vm.now) result }
 {
     match host {
         None => put_plain_vm(sink, view, figures, tick_ns, width, vm),
@@ -173,11 +197,11 @@ fn put_plain_vm<K: Sink>(
     requires figures { AreFigures view.now figures.now }
     requires vcpus { length view.now.tasks.items ≤ MAX_VCPUS }
     ensures { Writes (K.state sink.old) (K.state sink.new)
-        (vm_figures None tick_ns width view.now.names.items view.now.tasks.items view.now.slots.items vm.now)
-        result }
+        (vm_figures None (is_refused figures.now.refusal.items) tick_ns width view.now.names.items
+        (length view.now.tasks.items) view.now.slots.items vm.now) result }
 {
     let count = count_in(view, vm);
-    let share = share_in(view, vm);
+    let share = given_in(view, figures, vm);
     let wait = wait_in(view, figures, vm);
     put_cells(
         sink,
@@ -203,12 +227,12 @@ fn put_asked_vm<K: Sink>(
     requires figures { AreFigures view.now figures.now }
     requires vcpus { length view.now.tasks.items ≤ MAX_VCPUS }
     ensures { Writes (K.state sink.old) (K.state sink.new)
-        (vm_figures (Some vcpus.now) tick_ns width view.now.names.items view.now.tasks.items
-        view.now.slots.items vm.now) result }
+        (vm_figures (Some vcpus.now) (is_refused figures.now.refusal.items) tick_ns width view.now.names.items
+        (length view.now.tasks.items) view.now.slots.items vm.now) result }
 {
     let count = count_in(view, vm);
     let asked = asked_in(view, vcpus, vm);
-    let share = share_in(view, vm);
+    let share = given_in(view, figures, vm);
     let wait = wait_in(view, figures, vm);
     let promised = least_in(view, vcpus, vm);
     let breaks = breaks_in(view, vcpus, figures, tick_ns, vm);
@@ -221,7 +245,7 @@ fn put_asked_vm<K: Sink>(
             Cell::Percent(5, share),
             wait_cell(tick_ns, wait),
             least_cell(promised),
-            all_kept_cell(promised, breaks),
+            all_kept_cell(promised, is_refused(figures), breaks),
             Cell::Text(b" "),
         ],
     )
@@ -248,11 +272,11 @@ fn least_cell(promised: Option<u64>) -> Cell<'static>
 }
 
 // Whether each vCPU has what it was promised.
-fn all_kept_cell(promised: Option<u64>, breaks: bool) -> Cell<'static>
-    ensures { cell_text result ≡ all_kept_cell promised breaks }
+fn all_kept_cell(promised: Option<u64>, is_refused: bool, breaks: bool) -> Cell<'static>
+    ensures { cell_text result ≡ all_kept_cell promised is_refused breaks }
 {
     match promised {
-        Some(_) => Cell::Right(6, yes_or_no(!breaks)),
+        Some(_) => Cell::Right(6, kept_word(is_refused, !breaks)),
         None => Cell::Right(6, b"-"),
     }
 }
@@ -330,6 +354,32 @@ pub(crate) fn share_in(view: &View, vm: &[u8]) -> u64
         }
     }
     share
+}
+
+// What the slots of the VM's vCPUs give them of a core together.
+fn given_in(view: &View, figures: &Figures, vm: &[u8]) -> u64
+    requires figures { AreFigures view.now figures.now }
+    requires vcpus { length view.now.tasks.items ≤ MAX_VCPUS }
+    ensures { result ≡ sum_in (given_share view.now.slots.items) view.now.names.items vm.now
+        (length view.now.tasks.items) }
+{
+    let mut share = 0;
+    for vcpu in 0..view.tasks.len() {
+        if is_of(view, vm, vcpu) {
+            share += given_share(view, figures, vcpu);
+        }
+    }
+    share
+}
+
+// What the slots give a vCPU of a core.
+pub(crate) fn given_share(view: &View, figures: &Figures, vcpu: usize) -> u64
+    requires figures { AreFigures view.now figures.now }
+    requires low { vcpu < length view.now.tasks.items }
+    ensures value { result ≡ given_share view.now.slots.items vcpu }
+    ensures small { result < 2 ^ 52 }
+{
+    of_round(given_at(view, figures, vcpu))
 }
 
 pub(crate) fn share_at(view: &View, vcpu: usize) -> u64
@@ -412,8 +462,8 @@ pub(crate) fn wait_in(view: &View, figures: &Figures, vm: &[u8]) -> u32
 // Whether one of the VM's vCPUs hasn't what it was promised.
 fn breaks_in(view: &View, vcpus: &[Vcpu], figures: &Figures, tick_ns: u32, vm: &[u8]) -> bool
     requires { AreFigures view.now figures.now }
-    ensures { result ≡ any_below (vm_breaks tick_ns vcpus.now view.now.names.items vm.now view.now.tasks.items
-        view.now.slots.items) (length view.now.tasks.items) }
+    ensures { result ≡ any_below (vm_breaks tick_ns vcpus.now view.now.names.items vm.now view.now.slots.items)
+        (length view.now.tasks.items) }
 {
     let mut found = false;
     for vcpu in 0..view.tasks.len() {
@@ -434,8 +484,7 @@ fn breaks_there(
 ) -> bool
     requires figures { AreFigures view.now figures.now }
     requires low { vcpu < length view.now.tasks.items }
-    ensures { result ≡ vm_breaks tick_ns vcpus.now view.now.names.items vm.now view.now.tasks.items
-        view.now.slots.items vcpu }
+    ensures { result ≡ vm_breaks tick_ns vcpus.now view.now.names.items vm.now view.now.slots.items vcpu }
 {
     is_broken(view, vcpus, figures, tick_ns, vcpu) && is_of(view, vm, vcpu)
 }
@@ -450,11 +499,10 @@ pub(crate) fn is_broken(
 ) -> bool
     requires figures { AreFigures view.now figures.now }
     requires low { vcpu < length view.now.tasks.items }
-    ensures { result ≡ is_broken tick_ns vcpus.now view.now.names.items view.now.tasks.items view.now.slots.items
-        vcpu }
+    ensures { result ≡ is_broken tick_ns vcpus.now view.now.names.items view.now.slots.items vcpu }
 {
     let asked = asked_at(view, vcpus, vcpu);
-    let share = share_at(view, vcpu);
+    let share = given_share(view, figures, vcpu);
     let wait = figure_of(view, figures, vcpu);
     is_broken_by(tick_ns, &asked, share, wait)
 }

@@ -3,9 +3,10 @@ ghost use Rattle.tab_core.specs.declared.TheConstants.{MAX_CORES, ROUND};
 ghost use Rattle.view_cells.specs.Cells.{count_cell, millis_cell, width_below};
 ghost use Rattle.view_cells.specs.CellTexts.{cell_text};
 ghost use Rattle.view_table.specs.Loads.{is_slot, load_of_core, ticks_on};
-ghost use Rattle.view_table.specs.Table.{asked_cell, asked_of, is_promise_kept, kept_cell, of_round, promised_cell, task_share, wait_cell};
+ghost use Rattle.view_table.specs.Table.{asked_cell, asked_of, is_promise_kept, kept_cell, kept_word, of_round, promised_cell, task_share, wait_cell};
 ghost use Rattle.vcpu_names.specs.Names.{name_at};
 
+use crate::figures::Figure;
 use tab_core::{Name, ROUND, Reservation, Vcpu, WHOLE_PPM};
 use view_cells::{Cell, yes_or_no};
 use view_doc::{Stretch, Task, Use};
@@ -24,8 +25,10 @@ pub(crate) fn share_of(task: &Task) -> u64
 }
 
 // Ticks as parts per million of a round.
+#[tactic(auto, using(crate::proofs::TableLemmas::small_part))]
 pub(crate) fn of_round(ticks: u32) -> u64
-    ensures { result ≡ of_round ticks }
+    ensures value { result ≡ of_round ticks }
+    ensures small { result < 2 ^ 52 }
 {
     u64::from(ticks) * u64::from(WHOLE_PPM) / u64::from(ROUND)
 }
@@ -158,18 +161,30 @@ pub(crate) fn promised_cell(asked: &Option<Reservation>) -> Cell<'static>
 }
 
 // Whether all was kept.
-pub(crate) fn kept_cell(
-    tick_ns: u32,
-    asked: &Option<Reservation>,
-    share: u64,
-    wait: u32,
-) -> Cell<'static>
-    ensures { cell_text result ≡ kept_cell tick_ns asked.now share wait }
+pub(crate) fn kept_cell(tick_ns: u32, asked: &Option<Reservation>, figure: Figure) -> Cell<'static>
+    ensures { cell_text result ≡ kept_cell tick_ns asked.now figure }
 {
     match asked {
-        Some(r) => Cell::Right(6, yes_or_no(is_kept(tick_ns, r, share, wait))),
+        Some(r) => Cell::Right(
+            6,
+            kept_word(figure.is_refused, has_promise(tick_ns, r, figure)),
+        ),
         None => Cell::Right(6, b"-"),
     }
+}
+
+// Whether all was kept in words, which is open where the tables are refused.
+pub(crate) fn kept_word(is_refused: bool, is_kept: bool) -> &'static [u8]
+    ensures { result.now ≡ kept_word is_refused is_kept }
+{
+    if is_refused { b"?" } else { yes_or_no(is_kept) }
+}
+
+// Whether the slots and the wait of a vCPU are as was promised.
+pub(crate) fn has_promise(tick_ns: u32, r: &Reservation, figure: Figure) -> bool
+    ensures { result ≡ is_promise_kept tick_ns r.now (of_round figure.given) figure.wait }
+{
+    is_kept(tick_ns, r, of_round(figure.given), figure.wait)
 }
 
 // Whether the share and the wait are as was promised.

@@ -3,27 +3,29 @@ ghost use Rattle.tab_core.specs.declared.TheConstants.{MAX_CORES, MAX_VCPUS};
 ghost use Rattle.tab_io.specs.Sinks.{Writes};
 ghost use Rattle.tab_words.specs.Texts.{texts_below};
 ghost use Rattle.view_table.specs.Figures.{AreFigures};
+ghost use Rattle.view_table.specs.Given.{is_refused};
 ghost use Rattle.view_table.specs.Loads.{load_of_core};
 ghost use Rattle.view_table.specs.Table.{asked_cells, core_cells, core_head, core_row, core_word, cores_cell, plain_cells, row_cells, table_head, table_row};
-ghost use Rattle.view_table.specs.TableTexts.{table_of, table_text};
+ghost use Rattle.view_table.specs.TableTexts.{refusal_lines, refusal_text, table_of, table_text, width_in};
 
-use crate::figures::Figures;
+use crate::figures::{Figure, Figures, figure_at};
 use crate::rows::{
     asked_cell, asked_of, core_cell, kept_cell, load_of, loads_of, name_at, of_round, period_cell,
-    promised_cell, rest_of_round, share_of, wait_cell, width_of,
+    promised_cell, rest_of_round, wait_cell, width_of,
 };
 use crate::totals::put_end;
 use tab_core::{MAX_CORES, Reservation, Vcpu};
 use tab_io::{Sink, WriteFault, write_all};
-use tab_words::put_numbered;
+use tab_words::{TextPiece, put_numbered, put_pieces};
 use view_cells::{Cell, put_cells, put_left};
 use view_doc::{Stretch, Task, View};
 
 /// Writes the tables of a plan, whose figures these are, for a tick of so many nanoseconds.
 ///
-/// A row for each `vcpu` line has the share in percent of a core, the period, the longest wait, and the
+/// A row for each `vcpu` line has the share in percent of a core, by the slots, the period, the longest wait, and the
 /// cores where it has slots. Beside a host it has what the host's vCPU of this name has reserved too, and
-/// whether the plan keeps it, or dashes where no such vCPU is admitted. A row for each core has its load
+/// whether the plan keeps it, or dashes where no such vCPU is admitted. Where `tableau check` refuses the tables, its
+/// line is above all, and whether the plan keeps it is a question mark. A row for each core has its load
 /// and what is left of a round. The last line has how many vCPUs there are, their shares together, how full the
 /// cores are together, and how many of the admitted vCPUs have what they were promised. Times are in milliseconds, with three digits.
 ///
@@ -39,10 +41,54 @@ pub fn write_table<K: Sink>(
     requires few { view.now.cores ≤ MAX_CORES }
     requires vcpus { length view.now.tasks.items ≤ MAX_VCPUS }
     ensures { Writes (K.state sink.old) (K.state sink.new)
-        (table_text (option_copied host.entry) tick_ns view.now) result }
+        (table_text (option_copied host.entry) figures.now.refusal.items tick_ns view.now) result }
+{
+    put_refusal(sink, &figures.refusal)?;
+    put_wide_table(sink, host, view, figures, tick_ns)
+}
+
+// Writes the tables, with names in a column of their width.
+fn put_wide_table<K: Sink>(
+    sink: &mut K,
+    host: Option<&[Vcpu]>,
+    view: &View,
+    figures: &Figures,
+    tick_ns: u32,
+) -> Result<(), WriteFault>
+    requires figures { AreFigures view.now figures.now }
+    requires few { view.now.cores ≤ MAX_CORES }
+    requires vcpus { length view.now.tasks.items ≤ MAX_VCPUS }
+    ensures { Writes (K.state sink.old) (K.state sink.new)
+        (table_of (option_copied host.entry) (is_refused figures.now.refusal.items) tick_ns (width_in view.now) view.now)
+        result }
 {
     let width = width_of(&view.names, view.tasks.len());
     put_table(sink, host, view, figures, tick_ns, width)
+}
+
+// Writes the line by which the tables are refused, and an empty line, where they are.
+pub(crate) fn put_refusal<K: Sink>(sink: &mut K, refusal: &[u8]) -> Result<(), WriteFault>
+    ensures { Writes (K.state sink.old) (K.state sink.new) (refusal_text refusal.now) result }
+{
+    if refusal.is_empty() {
+        Ok(())
+    } else {
+        put_refusal_lines(sink, refusal)
+    }
+}
+
+#[tactic(auto, unfolding(crate::specs::TableTexts::refusal_lines))]
+fn put_refusal_lines<K: Sink>(sink: &mut K, refusal: &[u8]) -> Result<(), WriteFault>
+    ensures { Writes (K.state sink.old) (K.state sink.new) (refusal_lines refusal.now) result }
+{
+    put_pieces(
+        sink,
+        &[
+            TextPiece::Text(b"tableau check: "),
+            TextPiece::Text(refusal),
+            TextPiece::Text(b"\n\n"),
+        ],
+    )
 }
 
 // Writes the tables, with names in a column of this width.
@@ -58,7 +104,7 @@ fn put_table<K: Sink>(
     requires few { view.now.cores ≤ MAX_CORES }
     requires vcpus { length view.now.tasks.items ≤ MAX_VCPUS }
     ensures { Writes (K.state sink.old) (K.state sink.new)
-        (table_of (option_copied host.entry) tick_ns width view.now) result }
+        (table_of (option_copied host.entry) (is_refused figures.now.refusal.items) tick_ns width view.now) result }
 {
     put_left(sink, width, b"vcpu")?;
     put_head(sink, &host)?;
@@ -97,8 +143,9 @@ fn put_vcpus<K: Sink>(
     requires figures { AreFigures view.now figures.now }
     requires few { view.now.cores ≤ MAX_CORES }
     ensures { Writes (K.state sink.old) (K.state sink.new)
-        (texts_below (table_row (option_copied host.entry) tick_ns width view.now.names.items
-        view.now.tasks.items view.now.slots.items view.now.cores) (length view.now.tasks.items)) result }
+        (texts_below (table_row (option_copied host.entry) (is_refused figures.now.refusal.items) tick_ns width
+        view.now.names.items view.now.tasks.items view.now.slots.items view.now.cores)
+        (length view.now.tasks.items)) result }
 {
     for vcpu in 0..view.tasks.len() {
         put_vcpu(sink, host, view, figures, tick_ns, width, vcpu)?;
@@ -120,12 +167,12 @@ fn put_vcpu<K: Sink>(
     requires few { view.now.cores ≤ MAX_CORES }
     requires low { vcpu < length view.now.tasks.items }
     ensures { Writes (K.state sink.old) (K.state sink.new)
-        (table_row (option_copied host.entry) tick_ns width view.now.names.items view.now.tasks.items
-        view.now.slots.items view.now.cores vcpu) result }
+        (table_row (option_copied host.entry) (is_refused figures.now.refusal.items) tick_ns width
+        view.now.names.items view.now.tasks.items view.now.slots.items view.now.cores vcpu) result }
 {
     let name = name_at(&view.names, vcpu);
-    let wait = figures.waits[vcpu];
-    put_row(sink, host, tick_ns, width, name, &view.tasks[vcpu], wait)?;
+    let figure = figure_at(view, figures, vcpu);
+    put_row(sink, host, tick_ns, width, name, &view.tasks[vcpu], figure)?;
     put_core_words(sink, view, figures, vcpu)
 }
 
@@ -137,16 +184,16 @@ fn put_row<K: Sink>(
     width: usize,
     name: &[u8],
     task: &Task,
-    wait: u32,
+    figure: Figure,
 ) -> Result<(), WriteFault>
     ensures { Writes (K.state sink.old) (K.state sink.new)
-        (row_cells (option_copied host.entry) tick_ns width name.now task.now wait) result }
+        (row_cells (option_copied host.entry) tick_ns width name.now task.now figure) result }
 {
     match host {
-        None => put_plain(sink, tick_ns, width, name, task, wait),
+        None => put_plain(sink, tick_ns, width, name, task, figure),
         Some(vcpus) => {
             let asked = asked_of(vcpus, name);
-            put_asked(sink, tick_ns, width, name, task, wait, &asked)
+            put_asked(sink, tick_ns, width, name, task, figure, &asked)
         }
     }
 }
@@ -157,19 +204,19 @@ fn put_plain<K: Sink>(
     width: usize,
     name: &[u8],
     task: &Task,
-    wait: u32,
+    figure: Figure,
 ) -> Result<(), WriteFault>
     ensures { Writes (K.state sink.old) (K.state sink.new)
-        (plain_cells tick_ns width name.now task.now wait) result }
+        (plain_cells tick_ns width name.now task.now figure) result }
 {
-    let share = share_of(task);
+    let share = of_round(figure.given);
     put_cells(
         sink,
         &[
             Cell::Left(width, name),
             Cell::Percent(5, share),
             period_cell(tick_ns, task),
-            wait_cell(tick_ns, wait),
+            wait_cell(tick_ns, figure.wait),
         ],
     )
 }
@@ -180,13 +227,13 @@ fn put_asked<K: Sink>(
     width: usize,
     name: &[u8],
     task: &Task,
-    wait: u32,
+    figure: Figure,
     asked: &Option<Reservation>,
 ) -> Result<(), WriteFault>
     ensures { Writes (K.state sink.old) (K.state sink.new)
-        (asked_cells tick_ns width name.now task.now wait asked.now) result }
+        (asked_cells tick_ns width name.now task.now figure asked.now) result }
 {
-    let share = share_of(task);
+    let share = of_round(figure.given);
     put_cells(
         sink,
         &[
@@ -194,9 +241,9 @@ fn put_asked<K: Sink>(
             asked_cell(asked),
             Cell::Percent(5, share),
             period_cell(tick_ns, task),
-            wait_cell(tick_ns, wait),
+            wait_cell(tick_ns, figure.wait),
             promised_cell(asked),
-            kept_cell(tick_ns, asked, share, wait),
+            kept_cell(tick_ns, asked, figure),
         ],
     )
 }

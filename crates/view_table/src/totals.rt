@@ -1,13 +1,15 @@
 ghost use Rattle.std.specs.Prelude.{◌≡◌, ◌<◌, ◌≤◌, ◌^◌, length, option_copied};
 ghost use Rattle.tab_core.specs.declared.TheConstants.{MAX_CORES, MAX_VCPUS};
 ghost use Rattle.tab_io.specs.Sinks.{Writes};
+ghost use Rattle.view_cells.specs.CellTexts.{cell_text};
 ghost use Rattle.view_table.specs.Figures.{AreFigures};
+ghost use Rattle.view_table.specs.Given.{is_refused};
 ghost use Rattle.view_table.specs.Groups.{count_where};
 ghost use Rattle.view_table.specs.TableTexts.{end_text};
-ghost use Rattle.view_table.specs.Totals.{asked_below, asked_total, busy_below, full_of, given_below, has_all, is_share_asked, plain_total, total_text};
+ghost use Rattle.view_table.specs.Totals.{asked_below, asked_total, busy_below, full_of, given_below, has_all, is_share_asked, kept_count, plain_total, total_text};
 
-use crate::figures::Figures;
-use crate::groups::{asked_at, is_broken, ppm_at, share_at};
+use crate::figures::{Figures, is_refused};
+use crate::groups::{asked_at, given_share, is_broken, ppm_at};
 use crate::rows::loads_of;
 use crate::table::{put_core_head, put_cores};
 use tab_core::{ROUND, Vcpu, WHOLE_PPM};
@@ -27,7 +29,7 @@ pub(crate) fn put_end<K: Sink>(
     requires few { view.now.cores ≤ MAX_CORES }
     requires vcpus { length view.now.tasks.items ≤ MAX_VCPUS }
     ensures { Writes (K.state sink.old) (K.state sink.new)
-        (end_text (option_copied host.entry) tick_ns view.now) result }
+        (end_text (option_copied host.entry) (is_refused figures.now.refusal.items) tick_ns view.now) result }
 {
     put_core_head(sink)?;
     put_cores(sink, view)?;
@@ -46,9 +48,9 @@ fn put_total<K: Sink>(
     requires few { view.now.cores ≤ MAX_CORES }
     requires vcpus { length view.now.tasks.items ≤ MAX_VCPUS }
     ensures { Writes (K.state sink.old) (K.state sink.new)
-        (total_text (option_copied host.entry) tick_ns view.now) result }
+        (total_text (option_copied host.entry) (is_refused figures.now.refusal.items) tick_ns view.now) result }
 {
-    let given = given_below(view);
+    let given = given_below(view, figures);
     let full = full_of(busy_below(view), view.cores);
     match host {
         None => put_plain_total(sink, view.tasks.len(), given, full),
@@ -92,9 +94,10 @@ fn put_asked_total<K: Sink>(
     requires vcpus { length view.now.tasks.items ≤ MAX_VCPUS }
     ensures { Writes (K.state sink.old) (K.state sink.new)
         (asked_total (length view.now.tasks.items) (asked_below vcpus.now view.now.names.items
-        (length view.now.tasks.items)) given full (count_where (has_all tick_ns vcpus.now view.now.names.items
-        view.now.tasks.items view.now.slots.items) (length view.now.tasks.items)) (count_where (is_share_asked
-        vcpus.now view.now.names.items) (length view.now.tasks.items))) result }
+        (length view.now.tasks.items)) given full (is_refused figures.now.refusal.items)
+        (count_where (has_all tick_ns vcpus.now view.now.names.items view.now.slots.items)
+        (length view.now.tasks.items)) (count_where (is_share_asked vcpus.now view.now.names.items)
+        (length view.now.tasks.items))) result }
 {
     let asked = asked_below(view, vcpus);
     let kept = kept_below(view, vcpus, figures, tick_ns);
@@ -111,7 +114,7 @@ fn put_asked_total<K: Sink>(
             Cell::Text(b" %, load "),
             Cell::Percent(0, full),
             Cell::Text(b" %, kept "),
-            Cell::Count(0, kept),
+            kept_count(is_refused(figures), kept),
             Cell::Text(b" of "),
             Cell::Count(0, admitted),
             Cell::Text(b"\n"),
@@ -119,15 +122,27 @@ fn put_asked_total<K: Sink>(
     )
 }
 
+// How many have what they were promised, which is open where the tables are refused.
+fn kept_count(is_refused: bool, kept: u64) -> Cell<'static>
+    ensures { cell_text result ≡ kept_count is_refused kept }
+{
+    if is_refused {
+        Cell::Text(b"?")
+    } else {
+        Cell::Count(0, kept)
+    }
+}
+
 // The shares of all vCPUs together.
 #[tactic(auto, using(crate::proofs::GroupLemmas::sum_none, crate::proofs::GroupLemmas::sum_more))]
-fn given_below(view: &View) -> u64
-    requires { length view.now.tasks.items ≤ MAX_VCPUS }
-    ensures { result ≡ given_below view.now.tasks.items (length view.now.tasks.items) }
+fn given_below(view: &View, figures: &Figures) -> u64
+    requires figures { AreFigures view.now figures.now }
+    requires vcpus { length view.now.tasks.items ≤ MAX_VCPUS }
+    ensures { result ≡ given_below view.now.slots.items (length view.now.tasks.items) }
 {
     let mut share = 0;
     for vcpu in 0..view.tasks.len() {
-        share += share_at(view, vcpu);
+        share += given_share(view, figures, vcpu);
     }
     share
 }
@@ -173,8 +188,8 @@ fn is_admitted(view: &View, vcpus: &[Vcpu], vcpu: usize) -> bool
 fn kept_below(view: &View, vcpus: &[Vcpu], figures: &Figures, tick_ns: u32) -> u64
     requires figures { AreFigures view.now figures.now }
     requires vcpus { length view.now.tasks.items ≤ MAX_VCPUS }
-    ensures { result ≡ count_where (has_all tick_ns vcpus.now view.now.names.items view.now.tasks.items
-        view.now.slots.items) (length view.now.tasks.items) }
+    ensures { result ≡ count_where (has_all tick_ns vcpus.now view.now.names.items view.now.slots.items)
+        (length view.now.tasks.items) }
 {
     let mut count = 0;
     for vcpu in 0..view.tasks.len() {
@@ -188,8 +203,7 @@ fn kept_below(view: &View, vcpus: &[Vcpu], figures: &Figures, tick_ns: u32) -> u
 fn has_all(view: &View, vcpus: &[Vcpu], figures: &Figures, tick_ns: u32, vcpu: usize) -> bool
     requires figures { AreFigures view.now figures.now }
     requires low { vcpu < length view.now.tasks.items }
-    ensures { result ≡ has_all tick_ns vcpus.now view.now.names.items view.now.tasks.items view.now.slots.items
-        vcpu }
+    ensures { result ≡ has_all tick_ns vcpus.now view.now.names.items view.now.slots.items vcpu }
 {
     is_admitted(view, vcpus, vcpu) && !is_broken(view, vcpus, figures, tick_ns, vcpu)
 }

@@ -4,7 +4,7 @@ use Rattle.view_table.proofs.data.put_csv_shares.Goals as goal
 pub returns : goal.returns
 unfolding csv_shares
 returns g c = rw (
-  ← c.share_of-share.ensures.value,
+  ← c.of_round-share.ensures.value,
   ← c.share_or-asked_share.ensures,
   ← c.number_or-asked_piece.ensures,
 ) c.put_pieces.ensures

@@ -11,4 +11,4 @@ returns-in_err-put_comma g c =
 pub returns : goal.returns
 returns g c =
     let at0 = left_behind _ _ _ _ _ _ _ _ _ (all_left _ _) refl c.put_comma.ensures c.in_ok-put_comma.was in
-    rw (← c.of_round-part.ensures) (left_last _ _ _ _ _ _ at0 c.put_number.ensures)
+    rw (← c.of_round-part.ensures.value) (left_last _ _ _ _ _ _ at0 c.put_number.ensures)

@@ -35,4 +35,4 @@ returns g c =
     let at1 = left_behind _ _ _ _ _ _ _ _ _ at0 refl c.put_json_rows.ensures c.in_ok-put_json_rows.was in
     let at2 = left_behind _ _ _ _ _ _ _ _ _ at1 refl c.put_load_head.ensures c.in_ok-put_load_head.was in
     let at3 = left_behind _ _ _ _ _ _ _ _ _ at2 refl c.put_loads.ensures c.in_ok-put_loads.was in
-    left_last _ _ _ _ _ _ at3 c.write_all.ensures
+    left_last _ _ _ _ _ _ at3 (rw c.deref.ensures.value at c.put_json_end.ensures)

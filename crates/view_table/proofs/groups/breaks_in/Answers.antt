@@ -8,7 +8,7 @@ pub loop-vcpu-init : goal.loop-vcpu-init
 loop-vcpu-init c = sym (any_below-zero _)
 
 pub loop-vcpu-preserved : goal.loop-vcpu-preserved
-loop-vcpu-preserved c = any_step (vm_breaks c.args.tick_ns c.args.vcpus.now c.args.view.now.names.items c.args.vm.now c.args.view.now.tasks.items c.args.view.now.slots.items) c.loop-vcpu.vcpu c.loop-vcpu.found c.if-breaks_there.found c.loop-vcpu.invariant
+loop-vcpu-preserved c = any_step (vm_breaks c.args.tick_ns c.args.vcpus.now c.args.view.now.names.items c.args.vm.now c.args.view.now.slots.items) c.loop-vcpu.vcpu c.loop-vcpu.found c.if-breaks_there.found c.loop-vcpu.invariant
     (elim c.if-breaks_there.branch [
       | then-breaks_there w ↦ inl (sym c.breaks_there.ensures ∙ w.if-breaks_there.true, w.found-is)
       | else-breaks_there w ↦ inr (sym c.breaks_there.ensures ∙ w.if-breaks_there.false, w.found-is)

@@ -5,7 +5,7 @@ pub returns : goal.returns
 unfolding vm_cells
 returns g c = rw (
   ← c.count_in-count.ensures,
-  ← c.share_in-share.ensures,
+  ← c.given_in-share.ensures,
   ← c.wait_in-wait.ensures,
   ← c.wait_cell.ensures,
 ) c.put_cells.ensures

@@ -4,5 +4,5 @@ use Rattle.view_table.proofs.table.put_asked.Goals as goal
 
 pub returns : goal.returns
 unfolding asked_cells
-returns g c = rw (← c.asked_cell.ensures, ← c.share_of-share.ensures.value, ← c.period_cell.ensures, ← c.wait_cell.ensures, ← c.promised_cell.ensures, ← c.kept_cell.ensures)
+returns g c = rw (← c.asked_cell.ensures, ← c.of_round-share.ensures.value, ← c.period_cell.ensures, ← c.wait_cell.ensures, ← c.promised_cell.ensures, ← c.kept_cell.ensures)
     (rw append-nil at c.put_cells.ensures)

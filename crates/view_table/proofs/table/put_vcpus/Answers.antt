@@ -1,6 +1,7 @@
 use Rattle.std.proofs.lemmas.Result.{err_from_is_err_and}
 use Rattle.tab_words.proofs.NumberedTextLemmas.{all_written, next_broken, next_written, none_written}
 use Rattle.std.proofs.Common.{◌≡◌, length, option_copied, rules}
+use Rattle.view_table.specs.Given.{is_refused}
 use Rattle.view_table.specs.Table.{table_row}
 use Rattle.view_table.proofs.table.put_vcpus.Goals as goal
 
@@ -11,15 +12,15 @@ pub returns-in_err-put_vcpu : goal.returns-in_err-put_vcpu
 returns-in_err-put_vcpu g c =
     let p = err_from_is_err_and c.from_residual.result c.from_residual.ensures.1 in
     let count : c.len-vcpu-end.result ≡ length c.args.view.now.tasks.items = search rules in
-    rw (p.1, ← count) (next_broken _ _ _ (table_row (option_copied c.args.host) c.args.tick_ns c.args.width c.args.view.now.names.items c.args.view.now.tasks.items c.args.view.now.slots.items c.args.view.now.cores) c.loop-vcpu.vcpu _ (tt {0}) _ c.in_err-put_vcpu.field-0.0
+    rw (p.1, ← count) (next_broken _ _ _ (table_row (option_copied c.args.host) (is_refused c.args.figures.now.refusal.items) c.args.tick_ns c.args.width c.args.view.now.names.items c.args.view.now.tasks.items c.args.view.now.slots.items c.args.view.now.cores) c.loop-vcpu.vcpu _ (tt {0}) _ c.in_err-put_vcpu.field-0.0
     c.loop-vcpu-test.true c.loop-vcpu.invariant c.put_vcpu.ensures c.in_err-put_vcpu.was)
 
 pub loop-vcpu-preserved : goal.loop-vcpu-preserved
-loop-vcpu-preserved g c = next_written _ _ _ (table_row (option_copied c.args.host) c.args.tick_ns c.args.width c.args.view.now.names.items c.args.view.now.tasks.items c.args.view.now.slots.items c.args.view.now.cores) c.loop-vcpu.vcpu (tt {0}) c.in_ok-put_vcpu.field-0 _
+loop-vcpu-preserved g c = next_written _ _ _ (table_row (option_copied c.args.host) (is_refused c.args.figures.now.refusal.items) c.args.tick_ns c.args.width c.args.view.now.names.items c.args.view.now.tasks.items c.args.view.now.slots.items c.args.view.now.cores) c.loop-vcpu.vcpu (tt {0}) c.in_ok-put_vcpu.field-0 _
     c.loop-vcpu.invariant c.put_vcpu.ensures c.in_ok-put_vcpu.was
 
 pub returns : goal.returns
 returns g c =
     let count : c.len-vcpu-end.result ≡ length c.args.view.now.tasks.items = search rules in
-    rw (← count) (all_written _ _ (table_row (option_copied c.args.host) c.args.tick_ns c.args.width c.args.view.now.names.items c.args.view.now.tasks.items c.args.view.now.slots.items c.args.view.now.cores) c.loop-vcpu.vcpu _ (tt {0}) c.loop-vcpu.auto.vcpu-end
+    rw (← count) (all_written _ _ (table_row (option_copied c.args.host) (is_refused c.args.figures.now.refusal.items) c.args.tick_ns c.args.width c.args.view.now.names.items c.args.view.now.tasks.items c.args.view.now.slots.items c.args.view.now.cores) c.loop-vcpu.vcpu _ (tt {0}) c.loop-vcpu.auto.vcpu-end
     c.loop-vcpu-test.false c.loop-vcpu.invariant)
