@@ -31,7 +31,7 @@ static void *map_all(int fd, size_t size)
 
 static size_t spans_size(const struct tab_settings *set)
 {
-	return sizeof(struct tab_span) * 2 * set->ncores * MAXSPAN;
+	return sizeof(struct tab_span) * 2 * set->room;
 }
 
 bool kernel_map(struct kernel *kernel, int spans, int state)
@@ -161,9 +161,9 @@ bool plan_put(struct kernel *kernel, unsigned int plan, const struct tables *tab
 		state->number_of[plan][id] = v;
 		state->home[plan][id] = tables->vcpu[v].home;
 	}
-	for (unsigned int c = 0; c < tables->cores; c++) {
-		memcpy(kernel->spans + (plan * kernel->set.ncores + c) * MAXSPAN, tables->row[c],
-		       tables->spans[c] * sizeof(struct tab_span));
+	for (unsigned int c = 0, first = 0; c < tables->cores; first += tables->spans[c++]) {
+		memcpy(kernel->spans + plan * kernel->set.room + first, tables->row[c], tables->spans[c] * sizeof(struct tab_span));
+		state->first[plan][c] = first;
 		state->spans[plan][c] = tables->spans[c];
 	}
 	state->quantum_ns[plan] = tables->quantum_ns;
@@ -196,6 +196,9 @@ static int put_and_store(struct kernel *kernel, const struct tables *tables)
 		return refuse(MACHINE, "the tables are of another machine", "they are for %u cores and rounds of %llu ns; those"
 			      " in force for %u and %llu. Unload, and load these", tables->cores, tables->round_ns,
 			      kernel->set.ncores, round);
+	if (tables_spans(tables) > kernel->set.room)
+		return refuse(MACHINE, "the tables are too large", "they have %u spans, and there is room for %u: unload, and load"
+			      " these", tables_spans(tables), kernel->set.room);
 	if (!plan_put(kernel, plan, tables))
 		return refuse(MACHINE, "a thread can't be given back", "the tables in force stay: %s", strerror(errno));
 	from = t0 + ((now_ns() - t0) / round + 2) * round;

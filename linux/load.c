@@ -16,6 +16,8 @@
 #include "linux.h"
 
 __asm__(".section .rodata\n.balign 16\nobject:\n.incbin \"tableau.bpf.o\"\nobject_end:\n.previous\n");
+#define LEAST_ROOM 8192		/* spans for each core */
+
 extern const char object[], object_end[];
 
 static int print_bad(enum libbpf_print_level level, const char *format, va_list args)
@@ -41,13 +43,16 @@ static struct bpf_object *load_object(struct kernel *kernel, const struct tables
 	set->t0 = now_ns();
 	set->round_ns = tables->round_ns;
 	set->ncores = cpus->n;
+	set->room = 2 * tables_spans(tables);	/* later tables may be larger */
+	if (set->room < cpus->n * LEAST_ROOM)
+		set->room = cpus->n * LEAST_ROOM;
 	memset(set->core_of, 255, sizeof(set->core_of));
 	for (unsigned int c = 0; c < cpus->n; c++) {
 		set->cpu_of[c] = cpus->cpu[c];
 		set->core_of[cpus->cpu[c]] = c;
 	}
 	if (bpf_map__set_initial_value(map_of(obj, ".rodata.set"), set, sizeof(*set)) ||
-	    bpf_map__set_max_entries(map_of(obj, "spans"), 2 * cpus->n * MAXSPAN) || bpf_object__load(obj)) {
+	    bpf_map__set_max_entries(map_of(obj, "spans"), 2 * set->room) || bpf_object__load(obj)) {
 		bpf_object__close(obj);
 		return NULL;
 	}

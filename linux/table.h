@@ -5,8 +5,8 @@
 #define MAXCORE 32		/* cores with a row */
 #define MAXV 256		/* vCPUs of a plan */
 #define WORDS (MAXV / 64)
-#define SPANBITS 13
-#define MAXSPAN (1 << SPANBITS)	/* spans of a row */
+#define MAXSPAN 102600		/* spans of a row: one for each tick */
+#define SPANBITS 17
 #define MAXID (2 * MAXV)	/* vCPUs of the plan in force and of the one that follows it */
 #define MAXCPU 8192
 #define NOBODY (-1)
@@ -22,7 +22,7 @@ struct tab_span {
 /* What tableau-linux sets before it loads. */
 struct tab_settings {
 	word_t t0, round_ns;	/* rounds begin at t0 of CLOCK_MONOTONIC */
-	unsigned int ncores, pad;
+	unsigned int ncores, room;	/* room: spans of a plan, in all rows together */
 	int cpu_of[MAXCORE];
 	unsigned char core_of[MAXCPU];	/* 255: no core of the tables */
 };
@@ -53,7 +53,7 @@ struct tab_state {
 	volatile word_t word;
 	word_t quantum_ns[2];
 	word_t queued[2][WORDS];	/* a bit for each number that may be in its queue; none that is there is missing */
-	unsigned int spans[2][MAXCORE];
+	unsigned int first[2][MAXCORE], spans[2][MAXCORE];	/* where a row begins in the plan's spans, and how many it has */
 	short id_of[2][MAXV];
 	short number_of[2][MAXID];	/* NOBODY: the plan doesn't have it */
 	signed char home[2][MAXID];	/* a core, or NOBODY */

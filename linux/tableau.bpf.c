@@ -28,7 +28,7 @@ struct tab_state state SEC(".bss.state");
 struct {
 	__uint(type, BPF_MAP_TYPE_ARRAY);
 	__uint(map_flags, BPF_F_MMAPABLE);
-	__uint(max_entries, 1);	/* set by tableau-linux: two plans, each core, MAXSPAN */
+	__uint(max_entries, 1);	/* set by tableau-linux: two plans */
 	__type(key, u32);
 	__type(value, struct tab_span);
 } spans SEC(".maps");
@@ -52,7 +52,7 @@ struct {
 
 static struct tab_span *span_at(u32 plan, u32 c, u32 at)
 {
-	u32 key = ((plan * set.ncores + c) << SPANBITS) + at;
+	u32 key = plan * set.room + state.first[plan & 1][c & (MAXCORE - 1)] + at;
 
 	return bpf_map_lookup_elem(&spans, &key);
 }
@@ -63,10 +63,10 @@ __noinline u32 find(u32 plan, u32 c, u64 place)
 	u32 low = 0, n = state.spans[plan & 1][c & (MAXCORE - 1)], i;
 
 	bpf_for(i, 0, SPANBITS) {
-		u32 next = low + (MAXSPAN / 2 >> i);
-		struct tab_span *span = span_at(plan, c, next - 1);
+		u32 next = low + (1 << (SPANBITS - 1) >> i);
+		struct tab_span *span = next < n ? span_at(plan, c, next - 1) : NULL;
 
-		if (next < n && span && span->end <= place)
+		if (span && span->end <= place)
 			low = next;
 	}
 	return low;

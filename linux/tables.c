@@ -202,10 +202,10 @@ static bool read_core(struct reader *r, unsigned int c)
 		return false;
 	if (n != c)
 		return fault(r, "the cores aren't numbered in order");
-	if (!number(r, &n, TICKS) || !ends(r))
+	if (!number(r, &n, MAXSPAN) || !ends(r))
 		return false;
-	if (n < 1 || n > MAXSPAN)
-		return fault(r, "a row has 1 to 8192 spans");
+	if (!n)
+		return fault(r, "a row has a span at least");
 	t->spans[c] = n;
 	t->row[c] = calloc(n, sizeof(struct tab_span));
 	if (!t->row[c])
@@ -307,6 +307,15 @@ void tables_free(struct tables *tables)
 	for (unsigned int c = 0; c < MAXCORE; c++)
 		free(tables->row[c]);
 	memset(tables->row, 0, sizeof(tables->row));
+}
+
+unsigned int tables_spans(const struct tables *tables)
+{
+	unsigned int n = 0;
+
+	for (unsigned int c = 0; c < tables->cores; c++)
+		n += tables->spans[c];
+	return n;
 }
 
 int tables_vcpu(const struct tables *tables, const char *name)

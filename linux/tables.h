@@ -25,5 +25,6 @@ struct tables {
  * what was read are freed by tables_free, whatever the answer was. */
 unsigned int tables_read(const char *text, size_t size, struct tables *tables, const char **why);
 void tables_free(struct tables *tables);
+unsigned int tables_spans(const struct tables *tables);	/* of all rows */
 int tables_vcpu(const struct tables *tables, const char *name);	/* NOBODY: there is none */
 #endif

@@ -1,6 +1,7 @@
 /* SPDX-License-Identifier: MIT OR GPL-2.0
  * drive loads FILE CPUS NAME=KIND..: makes a process for each vCPU, writes its `PID NAME` into FILE, and waits for its end.
- * KIND is spin, or RUN:SLEEP in microseconds (of its own CPU time, then asleep). CPUS is 1-N.
+ * KIND is spin, ext (it spins as a SCHED_EXT thread), or RUN:SLEEP in microseconds (of its own CPU time, then asleep).
+ * CPUS is 1-N.
  * drive metro US: wakes each US microseconds. By instruction count QEMU lets a CPU run up to the next timer before the next
  * CPU comes, so this bounds how far the guest's CPUs are apart. */
 #define _GNU_SOURCE
@@ -12,6 +13,7 @@
 #include <time.h>
 #include <unistd.h>
 #include <sys/prctl.h>
+#include <sys/syscall.h>
 #include <sys/wait.h>
 
 static long long clock_ns(clockid_t id)
@@ -76,6 +78,8 @@ int main(int argc, char **argv)
 			for (int c = 1; c <= last; c++)
 				CPU_SET(c, &set);
 			sched_setaffinity(0, sizeof(set), &set);
+			if (!strcmp(kind, "ext"))
+				syscall(SYS_sched_setscheduler, 0, 7, &(struct sched_param) { 0 });
 			work(run, nap);
 		}
 		fprintf(f, "%d %s\n", child, argv[i]);
