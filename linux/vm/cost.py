@@ -5,8 +5,8 @@ import sys
 
 NAMES = ["select_cpu", "enqueue", "dispatch", "running", "stopping", "arm", "init", "enable", "disable", "exit"]
 EVENT = re.compile(r"^.*-\d+\s+\[\d+\]\s+\S+\s+(\d+): (\w+): (.*)$")
-NS = 4  # an instruction, by -icount shift=2
-SOON = 25_000  # a wake that runs later waited for another's slot
+NS = 4  # of an instruction, by -icount shift=2; the TSC is in ns
+SOON = 100_000  # a wake that runs later waited for another's slot
 
 
 def median(values):
@@ -32,16 +32,16 @@ def spans(lines, names):
         if event == "hrtimer_expire_entry":
             begin = now if "bpf_timer" in rest else None
         elif event == "hrtimer_expire_exit" and begin is not None:
-            timers.append(now - begin)
-            last, begin = now - timers[-1], None
+            timers.append((now - begin) // NS)
+            last, begin = begin, None
         elif event == "sched_waking":
             waking[int(re.search(r" pid=(\d+)", rest)[1])] = now
         elif event == "sched_switch":
             pid = int(re.search(r"next_pid=(\d+)", rest)[1])
             if last is not None and pid in names and now - last < SOON:
-                borders.append(now - last)
+                borders.append((now - last) // NS)
             if pid in waking and pid in names and now - waking[pid] < SOON:
-                wakes.append(now - waking[pid])
+                wakes.append((now - waking[pid]) // NS)
             waking.pop(pid, None)
             last = None
     return timers, borders, wakes
