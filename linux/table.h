@@ -38,6 +38,8 @@ struct tab_core {
 	int slot_id;		/* the vCPU for which where[] names this core */
 	int pick;		/* the vCPU that dispatch chose last, or NOBODY once a border is past */
 	int shared;		/* whether that was a shared pick */
+	int kind;		/* the same of what runs */
+	word_t direct;		/* the end of the slot in which the pick woke, if it did; 0 otherwise */
 	int last;		/* the last shared pick, a number of the plan */
 	word_t dispatches, slots, shares, strangers, idle, borders, quanta, strays, late_sum, late_max;
 } __attribute__((aligned(64)));
@@ -58,7 +60,6 @@ struct tab_state {
 	short number_of[2][MAXID];	/* NOBODY: the plan doesn't have it */
 	signed char home[2][MAXID];	/* a core, or NOBODY */
 	signed char where[MAXID];	/* the core in whose slot it is, or NOBODY */
-	word_t enqueues, kicks;
 	struct tab_vcpu vcpus[MAXID];
 	struct tab_core cores[MAXCORE];
 	volatile int exit_kind;

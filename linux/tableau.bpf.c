@@ -97,7 +97,7 @@ static bool look(struct tab_core *core, u32 c, u64 now)
 	u64 place, begin = core->end - core->round;
 	u32 at = core->at + 1, plan;
 
-	if (now - core->begin < core->end - core->begin)
+	if (now >= core->begin && now < core->end)
 		return true;
 	if (now < set.t0)
 		return false;
@@ -116,11 +116,14 @@ static bool look(struct tab_core *core, u32 c, u64 now)
 	}
 	if (!span || place >= span->end)
 		return false;
+	core->end = 0;		/* whoever reads it from elsewhere sees no span meanwhile */
+	barrier();
 	core->at = at;
 	core->begin = core->round + begin;
-	core->end = core->round + span->end;
 	core->owner = span->owner;
 	core->sharers = (span->may[0] | span->may[1] | span->may[2] | span->may[3]) != 0;
+	barrier();
+	core->end = core->round + span->end;
 	return true;
 }
 
@@ -149,27 +152,30 @@ static void grant(struct task_struct *p, u64 ns)
 		p->scx.slice = ns;
 }
 
-static void kick(s32 cpu, u64 how)
+static struct tab_core *core_on(s32 cpu, u32 *c)
 {
-	__sync_fetch_and_add(&state.kicks, 1);
-	scx_bpf_kick_cpu(cpu, how);
+	u32 core = set.core_of[cpu & (MAXCPU - 1)];
+
+	*c = core;
+	if (core >= MAXCORE)
+		return NULL;
+	barrier_var(core);	/* what the compiler knows of it, the verifier doesn't */
+	return &state.cores[core & (MAXCORE - 1)];
 }
 
-/* The core for a vCPU that may run: the one whose slot it is in, and *own; or else its home. */
-static s32 core_for(s32 id, bool *own)
+static s32 home_of(s32 id)
 {
-	s32 core = state.where[id & (MAXID - 1)];
-
-	*own = core >= 0;
-	return *own ? core : state.home[plan_at(bpf_ktime_get_ns()) & 1][id & (MAXID - 1)];
+	return state.home[plan_at(bpf_ktime_get_ns()) & 1][id & (MAXID - 1)];
 }
 
+/* The CPU of the core whose slot the vCPU is in, or else that of its home. */
 s32 OPS(tab_select_cpu, struct task_struct *p, s32 prev_cpu, u64 flags)
 {
 	s32 id = id_of(p), core;
-	bool own;
 
-	core = id < 0 ? NOBODY : core_for(id, &own);
+	core = id < 0 ? NOBODY : state.where[id & (MAXID - 1)];
+	if (id >= 0 && core < 0)
+		core = home_of(id);
 	return core < 0 ? prev_cpu : set.cpu_of[core & (MAXCORE - 1)];
 }
 
@@ -181,27 +187,59 @@ static void mark(u32 plan, s32 id)
 		__sync_fetch_and_or(&state.queued[plan][v >> 6 & (WORDS - 1)], 1ULL << (v & 63));
 }
 
+/* The end of the span at the clock now, if the vCPU is its owner; 0 otherwise. */
+static u64 slot_end(const volatile struct tab_core *core, s32 id)
+{
+	u64 end = core->end, begin = core->begin, now = bpf_ktime_get_ns();
+	s32 owner = core->owner;
+
+	if (owner < 0 || state.id_of[core->plan & 1][owner & (MAXV - 1)] != id || now < begin || now >= end)
+		return 0;
+	return core->end == end ? end : 0;
+}
+
+/* The owner wakes in its slot, on the slot's CPU: it goes before whatever runs there, without a kick and a dispatch. */
+static bool wakes_in_slot(struct tab_core *core, struct task_struct *p, s32 id, u64 flags)
+{
+	u64 end = flags & SCX_ENQ_WAKEUP ? slot_end(core, id) : 0;
+
+	if (!end)
+		return false;
+	core->pick = id;
+	core->shared = 0;
+	core->direct = end;
+	core->slots++;
+	scx_bpf_dsq_insert(p, SCX_DSQ_LOCAL, set.round_ns, flags | SCX_ENQ_PREEMPT);
+	return true;
+}
+
 void OPS(tab_enqueue, struct task_struct *p, u64 flags)
 {
-	s32 id = id_of(p), core, cpu;
-	bool own;
+	s32 id = id_of(p), core, cpu = scx_bpf_task_cpu(p);
+	struct tab_core *here;
+	u32 c;
 
-	__sync_fetch_and_add(&state.enqueues, 1);
 	if (id < 0) {
 		scx_bpf_dsq_insert(p, STRANGERS, BEFORE, flags);
-		kick(scx_bpf_task_cpu(p), SCX_KICK_IDLE);
+		scx_bpf_kick_cpu(cpu, SCX_KICK_IDLE);
 		return;
 	}
+	here = core_on(cpu, &c);
+	if (here && wakes_in_slot(here, p, id, flags))
+		return;
 	mark(0, id);
 	mark(1, id);
 	scx_bpf_dsq_insert(p, id, set.round_ns, flags);
-	core = core_for(id, &own);
-	if (core < 0)
-		return;
-	cpu = set.cpu_of[core & (MAXCORE - 1)];
+	core = state.where[id & (MAXID - 1)];
 	/* without flags it ran here up to now, and this CPU is about to dispatch */
-	if ((flags & ~SCX_ENQ_LAST) || cpu != scx_bpf_task_cpu(p))
-		kick(cpu, own ? SCX_KICK_PREEMPT : SCX_KICK_IDLE);
+	if (!(flags & ~SCX_ENQ_LAST) && here) {
+		if (core == c || (core < 0 && state.home[here->plan & 1][id & (MAXID - 1)] == c))
+			return;
+	}
+	if (core >= 0)
+		scx_bpf_kick_cpu(set.cpu_of[core & (MAXCORE - 1)], SCX_KICK_PREEMPT);
+	else if ((core = home_of(id)) >= 0)
+		scx_bpf_kick_cpu(set.cpu_of[core & (MAXCORE - 1)], SCX_KICK_IDLE);
 }
 
 static void account(struct tab_core *core, const struct task_struct *p, s32 id)
@@ -209,7 +247,7 @@ static void account(struct tab_core *core, const struct task_struct *p, s32 id)
 	struct tab_vcpu *vcpu = &state.vcpus[id & (MAXID - 1)];
 	u64 ran = p->se.sum_exec_runtime;
 
-	vcpu->ran[core->shared & 1] += ran - vcpu->seen;
+	vcpu->ran[core->kind & 1] += ran - vcpu->seen;
 	vcpu->seen = ran;
 }
 
@@ -219,12 +257,14 @@ static bool run(struct tab_core *core, s32 v, struct task_struct *prev, s32 prev
 	u32 plan = core->plan & 1;
 	s32 id = state.id_of[plan][v & (MAXV - 1)];
 
-	if (prev && id == prev_id)
+	if (prev && id == prev_id) {
+		core->kind = v != core->owner;
 		grant(prev, set.round_ns);
-	else if (!scx_bpf_dsq_move_to_local(id))
+	} else if (!scx_bpf_dsq_move_to_local(id)) {
 		return false;
-	else
+	} else {
 		__sync_fetch_and_and(&state.queued[plan][v >> 6 & (WORDS - 1)], ~(1ULL << (v & 63)));
+	}
 	core->pick = id;
 	core->shared = v != core->owner;
 	if (!core->shared) {
@@ -250,24 +290,16 @@ static bool choose(struct tab_core *core, u32 c, struct task_struct *prev, s32 p
 		runnable[i] = state.queued[plan][i];
 	if (v >= 0)
 		runnable[v >> 6 & (WORDS - 1)] |= 1ULL << (v & 63);
-	bpf_for(i, 0, MAXV + 1) {
+	v = decide(span->owner, span->may, runnable, core->last);
+	if (v < 0 || run(core, v, prev, prev_id))
+		return v >= 0;
+	bpf_for(i, 0, MAXV) {
+		runnable[v >> 6 & (WORDS - 1)] &= ~(1ULL << (v & 63));
 		v = decide(span->owner, span->may, runnable, core->last);
 		if (v < 0 || run(core, v, prev, prev_id))
 			break;
-		runnable[v >> 6 & (WORDS - 1)] &= ~(1ULL << (v & 63));
 	}
 	return v >= 0;
-}
-
-static struct tab_core *core_on(s32 cpu, u32 *c)
-{
-	u32 core = set.core_of[cpu & (MAXCPU - 1)];
-
-	*c = core;
-	if (core >= MAXCORE)
-		return NULL;
-	barrier_var(core);	/* what the compiler knows of it, the verifier doesn't */
-	return &state.cores[core & (MAXCORE - 1)];
 }
 
 void OPS(tab_dispatch, s32 cpu, struct task_struct *prev)
@@ -289,6 +321,7 @@ void OPS(tab_dispatch, s32 cpu, struct task_struct *prev)
 	else
 		account(core, prev, prev_id);
 	core->pick = NOBODY;
+	core->direct = 0;
 	if (choose(core, c, prev, prev_id))
 		return;
 	core->shared = 0;
@@ -304,15 +337,19 @@ void OPS(tab_running, struct task_struct *p)
 {
 	s32 id = id_of(p), cpu = scx_bpf_task_cpu(p);
 	struct tab_core *core;
+	bool late;
 	u32 c;
 
 	core = core_on(cpu, &c);
 	if (id < 0 || !core)
 		return;
+	core->kind = core->shared;
+	late = core->direct && bpf_ktime_get_ns() >= core->direct;
+	core->direct = 0;
 	state.vcpus[id & (MAXID - 1)].seen = p->se.sum_exec_runtime;
-	if (id != core->pick) {
+	if (id != core->pick || late) {
 		core->strays++;
-		kick(cpu, SCX_KICK_PREEMPT);
+		scx_bpf_kick_cpu(cpu, SCX_KICK_PREEMPT);
 	} else if (core->shared) {
 		grant(p, state.quantum_ns[core->plan & 1]);
 	}
@@ -348,7 +385,7 @@ static void border(struct tab_core *core, u32 c, u64 now)
 	if (id >= 0 && id == core->pick && !core->shared)
 		return;
 	core->pick = NOBODY;
-	kick(set.cpu_of[c & (MAXCORE - 1)], SCX_KICK_PREEMPT);
+	scx_bpf_kick_cpu(set.cpu_of[c & (MAXCORE - 1)], SCX_KICK_PREEMPT);
 }
 
 /* Where a span of the core ends, and at each quantum of a shared pick. */
@@ -368,7 +405,7 @@ static int pulse(void *map, u32 *key, struct pulse *pulse)
 			polls = core->sharers;
 		} else if (core->shared) {
 			core->quanta++;
-			kick(set.cpu_of[c], SCX_KICK_PREEMPT);
+			scx_bpf_kick_cpu(set.cpu_of[c], SCX_KICK_PREEMPT);
 		} else {
 			polls = false;
 		}
