@@ -54,6 +54,18 @@ uninstall:
 	rm -f "$(to)/share/fish/vendor_completions.d/tableau-tools.fish"
 	rm -rf "$(to)/share/doc/tableau"
 
+# tableau-linux, which puts tables into a Linux kernel (linux/README.md), and its test on a kernel in QEMU
+linux:
+	$(MAKE) -C linux
+
+linux-vm:
+	linux/vm/all
+
+install-linux uninstall-linux: linux
+	$(MAKE) -C linux $(@:-linux=) PREFIX="$(PREFIX)" DESTDIR="$(DESTDIR)"
+
+.PHONY: linux linux-vm install-linux uninstall-linux
+
 # what is installed, packed for hosts without the kit, with a checksum
 dist: all
 	packaging/dist $(VERSION)
