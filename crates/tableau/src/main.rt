@@ -3,10 +3,12 @@
 //! writes to was closed, it tells nothing. After a run a terminal also sees whose threads made it.
 #![tactic(auto)]
 
+mod asked;
 mod progress;
 mod told;
 
 use advice::KeptSource;
+use asked::asked;
 use program_words::is_closed_pipe;
 use progress::{ClearedSink, ProgressGate};
 use round_words::RoundBoard;
@@ -28,6 +30,13 @@ fn main(rt: HostRuntime) -> ExitCode {
     let words = match all.as_slice() {
         [] => &[],
         [_, words @ ..] => words,
+    };
+    let Ok(known) = asked(rt.alloc(), words) else {
+        return ExitCode::from(Status::NoMemory.exit());
+    };
+    let words = match &known {
+        Some(known) => known.as_slice(),
+        None => words,
     };
     let Ok((board, seat)) = RoundBoard::make(rt.alloc()) else {
         return ExitCode::from(Status::NoMemory.exit());

@@ -226,7 +226,7 @@ impl<C: Clock + Sync, P: Print + Sync> Gate for ProgressGate<C, P> {
                 self.present.store(place, SeqCst);
                 return;
             }
-            place += 1;
+            place = place.wrapping_add(1);
         }
     }
 }
