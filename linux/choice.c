@@ -2,7 +2,7 @@
  * The scheduler's choice and the loader's reader as a library for `check`: the very code of table.h and tables.c. */
 #include "tables.h"
 
-#define MAXTABLES 16	/* a host's, and those after 15 changes at most */
+#define MAXTABLES 16 /* a host's, and those after 15 changes at most */
 
 static struct tables tables[MAXTABLES];
 

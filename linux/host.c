@@ -14,7 +14,7 @@
 #include "linux.h"
 
 #define CPUS "/sys/devices/system/cpu"
-#define LATE_WAKE 50	/* us: a CPU that wakes later than that is late at borders */
+#define LATE_WAKE 50 /* us: a CPU that wakes later than that is late at borders */
 
 /* Numbers of a list such as 1-3,6 one after the other: the next one, or -1 at its end, or -2 where it is no list. */
 static int next_cpu(const char **at, int *upto)
@@ -78,18 +78,24 @@ static int kernel_check(void)
 	if (geteuid())
 		return refuse(MACHINE, "not root", "load has to run as root");
 	if (!read_text("/sys/kernel/sched_ext/state", state, sizeof(state)))
-		return refuse(MACHINE, "no sched_ext", "kernel %s has no sched_ext (CONFIG_SCHED_CLASS_EXT). On Debian 13:"
-			      " apt-get install -t trixie-backports linux-image-amd64", name.release);
+		return refuse(MACHINE, "no sched_ext",
+			"kernel %s has no sched_ext (CONFIG_SCHED_CLASS_EXT). On Debian 13:"
+			" apt-get install -t trixie-backports linux-image-amd64",
+			name.release);
 	if (strcmp(state, "disabled"))
-		return refuse(MACHINE, "sched_ext is in use", "its state is %s: end the other scheduler,"
-			      " or tableau-linux unload", state);
+		return refuse(MACHINE, "sched_ext is in use",
+			"its state is %s: end the other scheduler,"
+			" or tableau-linux unload",
+			state);
 	if (access("/sys/kernel/btf/vmlinux", R_OK))
-		return refuse(MACHINE, "no BTF", "kernel %s has no /sys/kernel/btf/vmlinux (CONFIG_DEBUG_INFO_BTF)", name.release);
+		return refuse(MACHINE, "no BTF",
+			"kernel %s has no /sys/kernel/btf/vmlinux (CONFIG_DEBUG_INFO_BTF)", name.release);
 	btf = btf__load_vmlinux_btf();
 	has = btf && btf__find_by_name_kind(btf, "scx_bpf_dsq_move_to_local", BTF_KIND_FUNC) > 0;
 	btf__free(btf);
 	if (!has)
-		return refuse(MACHINE, "sched_ext is too old", "kernel %s has the sched_ext of before Linux 6.13", name.release);
+		return refuse(MACHINE, "sched_ext is too old",
+			"kernel %s has the sched_ext of before Linux 6.13", name.release);
 	if (statfs("/sys/fs/bpf", &fs) || fs.f_type != BPF_FS_MAGIC)
 		return refuse(MACHINE, "no bpffs", "mount -t bpf bpf /sys/fs/bpf");
 	return DONE;
@@ -105,8 +111,8 @@ static int is_partition(const char *file, const struct stat *stat, int type, str
 	char text[64], path[500];
 
 	(void)stat;
-	if (type != FTW_F || strcmp(file + at->base, "cpuset.cpus.partition") || !read_text(file, text, sizeof(text)) ||
-	    (strcmp(text, "root") && strcmp(text, "isolated")))
+	if (type != FTW_F || strcmp(file + at->base, "cpuset.cpus.partition") ||
+		!read_text(file, text, sizeof(text)) || (strcmp(text, "root") && strcmp(text, "isolated")))
 		return 0;
 	snprintf(path, sizeof(path), "%.*s/cpuset.cpus.effective", at->base - 1, file);
 	memset(has, 0, sizeof(has));
@@ -132,24 +138,31 @@ static int cpus_check(const struct tables *tables, const struct cpus *cpus)
 	cpus_of_file(CPUS "/online", online);
 	cpus_of_file("/sys/fs/cgroup/cpuset.cpus.effective", open);
 	if (read_text(CPUS "/isolated", isolated, sizeof(isolated)) && *isolated)
-		return refuse(MACHINE, "isolcpus", "sched_ext doesn't run where isolcpus= takes CPUs out of the domains (%s):"
-			      " take it off the kernel's command line, and make a cpuset partition", isolated);
+		return refuse(MACHINE, "isolcpus",
+			"sched_ext doesn't run where isolcpus= takes CPUs out of the domains (%s):"
+			" take it off the kernel's command line, and make a cpuset partition",
+			isolated);
 	if (cpus->n != tables->cores)
-		return refuse(MACHINE, "another number of CPUs", "the tables are for %u cores, and --cpus has %u CPUs",
-			      tables->cores, cpus->n);
+		return refuse(MACHINE, "another number of CPUs",
+			"the tables are for %u cores, and --cpus has %u CPUs", tables->cores, cpus->n);
 	for (unsigned int c = 0; c < cpus->n; c++)
 		ours[cpus->cpu[c]] = true;
 	for (int cpu = 0; cpu < MAXCPU; cpu++) {
 		if (ours[cpu] && !online[cpu])
 			return refuse(MACHINE, "a CPU is offline", "CPU %d isn't online", cpu);
 		if (ours[cpu] && (open[cpu] || !host_partition(cpu)))
-			return refuse(MACHINE, "a CPU is in no partition", "ordinary threads on CPU %d would go before the tables:"
-				      " put it into a group of the guests' own, by cpuset.cpus, with cpuset.cpus.partition"
-				      " root (cgroups of version 2)", cpu);
+			return refuse(MACHINE, "a CPU is in no partition",
+				"ordinary threads on CPU %d would go before the tables:"
+				" put it into a group of the guests' own, by cpuset.cpus, with "
+				"cpuset.cpus.partition"
+				" root (cgroups of version 2)",
+				cpu);
 		left |= online[cpu] && !ours[cpu];
 	}
-	return left ? DONE : refuse(MACHINE, "no CPU is left over", "the host's own threads want a CPU that no table has:"
-				    " plan for a core less");
+	return left ? DONE
+		    : refuse(MACHINE, "no CPU is left over",
+			      "the host's own threads want a CPU that no table has:"
+			      " plan for a core less");
 }
 
 /* How late a CPU may wake from its deepest sleep. */
@@ -165,7 +178,9 @@ static void warn_of_sleep(int cpu)
 		snprintf(file, sizeof(file), CPUS "/cpu%d/cpuidle/state%d/latency", cpu, state);
 		latency = read_text(file, text, sizeof(text)) ? atol(text) : 0;
 		if (latency > LATE_WAKE)
-			fprintf(stderr, "warning: CPU %d may take %ld us to wake from idle: cpupower -c %d idle-set -D %d\n",
+			fprintf(stderr,
+				"warning: CPU %d may take %ld us to wake from idle: cpupower -c %d idle-set "
+				"-D %d\n",
 				cpu, latency, cpu, LATE_WAKE);
 		return;
 	}
@@ -180,7 +195,7 @@ static bool is_kernels(const char *task)
 	if (!read_text(file, text, sizeof(text)) || !(at = strrchr(text, ')')))
 		return true;
 	sscanf(at + 1, " %*c %*d %*d %*d %*d %*d %u", &flags);
-	return flags & 0x00200000;	/* PF_KTHREAD */
+	return flags & 0x00200000; /* PF_KTHREAD */
 }
 
 /* Whether a thread is an ordinary one that may run on these CPUs, and isn't one that watch will take. */
@@ -215,7 +230,9 @@ static void warn_of_threads(const struct cpus *cpus)
 
 			snprintf(path, sizeof(path), "/proc/%.16s/task/%d", process->d_name, tid);
 			if (tid > 0 && is_in_the_way(path, tid, &ours, comm) && count++ < 3)
-				fprintf(stderr, "warning: thread %d (%s) may run on these CPUs, and goes before the tables\n",
+				fprintf(stderr,
+					"warning: thread %d (%s) may run on these CPUs, and goes before the "
+					"tables\n",
 					tid, comm);
 		}
 		if (tasks)

@@ -58,7 +58,8 @@ int kernel_open(struct kernel *kernel)
 	memset(kernel, 0, sizeof(*kernel));
 	kernel->lock = open(PINS, O_RDONLY | O_DIRECTORY | O_CLOEXEC);
 	if (kernel->lock < 0)
-		return refuse(INPUT, "no tables are loaded", "start with: tableau-linux load TABLES --cpus LIST, as root");
+		return refuse(INPUT, "no tables are loaded",
+			"start with: tableau-linux load TABLES --cpus LIST, as root");
 	flock(kernel->lock, LOCK_EX);
 	spans = pinned("spans");
 	state = pinned("state");
@@ -72,7 +73,8 @@ int kernel_open(struct kernel *kernel)
 	if (ok)
 		return DONE;
 	kernel_close(kernel);
-	return refuse(INPUT, "no tables are loaded", "what is pinned in " PINS " can't be read: %s", strerror(errno));
+	return refuse(INPUT, "no tables are loaded", "what is pinned in " PINS " can't be read: %s",
+		strerror(errno));
 }
 
 void kernel_close(struct kernel *kernel)
@@ -94,7 +96,7 @@ bool kernel_runs(const struct kernel *kernel)
 
 void kernel_unpin(void)
 {
-	static const char *const names[] = { "spans", "state", "set", "tags" };
+	static const char *const names[] = {"spans", "state", "set", "tags"};
 	char path[128];
 
 	for (unsigned int i = 0; i < sizeof(names) / sizeof(*names); i++) {
@@ -162,7 +164,8 @@ bool plan_put(struct kernel *kernel, unsigned int plan, const struct tables *tab
 		state->home[plan][id] = tables->vcpu[v].home;
 	}
 	for (unsigned int c = 0, first = 0; c < tables->cores; first += tables->spans[c++]) {
-		memcpy(kernel->spans + plan * kernel->set.room + first, tables->row[c], tables->spans[c] * sizeof(struct tab_span));
+		memcpy(kernel->spans + plan * kernel->set.room + first, tables->row[c],
+			tables->spans[c] * sizeof(struct tab_span));
 		state->first[plan][c] = first;
 		state->spans[plan][c] = tables->spans[c];
 	}
@@ -186,26 +189,35 @@ int vcpu_id(const struct kernel *kernel, const char *name)
 static int put_and_store(struct kernel *kernel, const struct tables *tables)
 {
 	struct tab_state *state = kernel->state;
-	word_t t0 = kernel->set.t0, round = kernel->set.round_ns, counts = state->word / 2, now = now_ns(), from;
+	word_t t0 = kernel->set.t0, round = kernel->set.round_ns, counts = state->word / 2, now = now_ns(),
+	       from;
 	unsigned int plan = !(state->word & 1);
 
 	if (now < counts)
-		return refuse(MACHINE, "a switch is under way", "the tables of the last switch count from round %llu, in"
-			      " %llu ms: switch after that", (counts - t0) / round, (counts - now) / 1000000 + 1);
+		return refuse(MACHINE, "a switch is under way",
+			"the tables of the last switch count from round %llu, in"
+			" %llu ms: switch after that",
+			(counts - t0) / round, (counts - now) / 1000000 + 1);
 	if (tables->cores != kernel->set.ncores || tables->round_ns != round)
-		return refuse(MACHINE, "the tables are of another machine", "they are for %u cores and rounds of %llu ns; those"
-			      " in force for %u and %llu. Unload, and load these", tables->cores, tables->round_ns,
-			      kernel->set.ncores, round);
+		return refuse(MACHINE, "the tables are of another machine",
+			"they are for %u cores and rounds of %llu ns; those"
+			" in force for %u and %llu. Unload, and load these",
+			tables->cores, tables->round_ns, kernel->set.ncores, round);
 	if (tables_spans(tables) > kernel->set.room)
-		return refuse(MACHINE, "the tables are too large", "they have %u spans, and there is room for %u: unload, and load"
-			      " these", tables_spans(tables), kernel->set.room);
+		return refuse(MACHINE, "the tables are too large",
+			"they have %u spans, and there is room for %u: unload, and load"
+			" these",
+			tables_spans(tables), kernel->set.room);
 	if (!plan_put(kernel, plan, tables))
-		return refuse(MACHINE, "a thread can't be given back", "the tables in force stay: %s", strerror(errno));
+		return refuse(MACHINE, "a thread can't be given back", "the tables in force stay: %s",
+			strerror(errno));
 	from = t0 + ((now_ns() - t0) / round + 2) * round;
 	state->word = from * 2 + plan;
 	printf("tables %s count from round %llu\n", tables->from, (from - t0) / round);
-	return now_ns() < from ? DONE : refuse(ENDED, "the switch came late", "this process was held up for two rounds:"
-					       " the cores may have switched one after the other");
+	return now_ns() < from ? DONE
+			       : refuse(ENDED, "the switch came late",
+					 "this process was held up for two rounds:"
+					 " the cores may have switched one after the other");
 }
 
 int switch_to(const char *file)
@@ -218,8 +230,9 @@ int switch_to(const char *file)
 		return status;
 	status = kernel_open(&kernel);
 	if (!status) {
-		status = kernel_runs(&kernel) ? put_and_store(&kernel, &tables) :
-			 refuse(ENDED, "the tables were ended", "tableau-linux status says why");
+		status = kernel_runs(&kernel)
+				 ? put_and_store(&kernel, &tables)
+				 : refuse(ENDED, "the tables were ended", "tableau-linux status says why");
 		kernel_close(&kernel);
 	}
 	tables_free(&tables);

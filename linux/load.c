@@ -16,7 +16,7 @@
 #include "linux.h"
 
 __asm__(".section .rodata\n.balign 16\nobject:\n.incbin \"tableau.bpf.o\"\nobject_end:\n.previous\n");
-#define LEAST_ROOM 8192		/* spans for each core */
+#define LEAST_ROOM 8192 /* spans for each core */
 
 extern const char object[], object_end[];
 
@@ -30,9 +30,11 @@ static struct bpf_map *map_of(struct bpf_object *obj, const char *name)
 	return bpf_object__find_map_by_name(obj, name);
 }
 
-static struct bpf_object *load_object(struct kernel *kernel, const struct tables *tables, const struct cpus *cpus)
+static struct bpf_object *load_object(
+	struct kernel *kernel, const struct tables *tables, const struct cpus *cpus)
 {
-	LIBBPF_OPTS(bpf_object_open_opts, opts, .object_name = "tableau", .kernel_log_level = getenv("TABLEAU_LIBBPF") ? 4 : 0);
+	LIBBPF_OPTS(bpf_object_open_opts, opts, .object_name = "tableau",
+		.kernel_log_level = getenv("TABLEAU_LIBBPF") ? 4 : 0);
 	struct tab_settings *set = &kernel->set;
 	struct bpf_object *obj;
 
@@ -43,7 +45,7 @@ static struct bpf_object *load_object(struct kernel *kernel, const struct tables
 	set->t0 = now_ns();
 	set->round_ns = tables->round_ns;
 	set->ncores = cpus->n;
-	set->room = 2 * tables_spans(tables);	/* later tables may be larger */
+	set->room = 2 * tables_spans(tables); /* later tables may be larger */
 	if (set->room < cpus->n * LEAST_ROOM)
 		set->room = cpus->n * LEAST_ROOM;
 	memset(set->core_of, 255, sizeof(set->core_of));
@@ -52,7 +54,7 @@ static struct bpf_object *load_object(struct kernel *kernel, const struct tables
 		set->core_of[cpus->cpu[c]] = c;
 	}
 	if (bpf_map__set_initial_value(map_of(obj, ".rodata.set"), set, sizeof(*set)) ||
-	    bpf_map__set_max_entries(map_of(obj, "spans"), 2 * set->room) || bpf_object__load(obj)) {
+		bpf_map__set_max_entries(map_of(obj, "spans"), 2 * set->room) || bpf_object__load(obj)) {
 		bpf_object__close(obj);
 		return NULL;
 	}
@@ -136,18 +138,20 @@ static struct bpf_link *attach(struct bpf_object *obj, const struct cpus *cpus)
 /* Until somebody ends this process, or the kernel ends the scheduler: its status. */
 static int hold(const struct tab_state *state, const sigset_t *signals)
 {
-	struct timespec nap = { 0, 200000000 };
+	struct timespec nap = {0, 200000000};
 
 	while (sigtimedwait(signals, NULL, &nap) < 0)
 		if (state->exit_kind)
-			return refuse(ENDED, "the kernel ended the tables", "%s: %s. The threads go on under the kernel's own"
-				      " scheduler", state->exit_reason, state->exit_msg);
+			return refuse(ENDED, "the kernel ended the tables",
+				"%s: %s. The threads go on under the kernel's own"
+				" scheduler",
+				state->exit_reason, state->exit_msg);
 	return DONE;
 }
 
 static int load_and_hold(const struct tables *tables, const struct cpus *cpus)
 {
-	struct kernel kernel = { 0 };
+	struct kernel kernel = {0};
 	struct bpf_object *obj = load_object(&kernel, tables, cpus);
 	struct bpf_link *link = NULL;
 	sigset_t signals;
@@ -157,8 +161,10 @@ static int load_and_hold(const struct tables *tables, const struct cpus *cpus)
 	sigaddset(&signals, SIGINT);
 	sigaddset(&signals, SIGTERM);
 	sigprocmask(SIG_BLOCK, &signals, NULL);
-	if (!obj || !kernel_map(&kernel, bpf_map__fd(map_of(obj, "spans")), bpf_map__fd(map_of(obj, ".bss.state"))))
-		return refuse(MACHINE, "the kernel took no tables", "libbpf says above what failed: %s", strerror(errno));
+	if (!obj || !kernel_map(&kernel, bpf_map__fd(map_of(obj, "spans")),
+			    bpf_map__fd(map_of(obj, ".bss.state"))))
+		return refuse(MACHINE, "the kernel took no tables", "libbpf says above what failed: %s",
+			strerror(errno));
 	kernel.tags = bpf_map__fd(map_of(obj, "tags"));
 	clear(kernel.state);
 	if (plan_put(&kernel, 0, tables) && pin_all(obj))
@@ -184,7 +190,8 @@ int load(const char *file, const char *list)
 	int status = tables_of_file(file, &tables);
 
 	if (!status && !cpus_parse(list, &cpus))
-		status = refuse(USAGE, "usage: --cpus LIST", "LIST is such as 2-5,8: at most 32 CPUs, none twice");
+		status = refuse(
+			USAGE, "usage: --cpus LIST", "LIST is such as 2-5,8: at most 32 CPUs, none twice");
 	if (!status)
 		status = host_check(&tables, &cpus);
 	if (!status)
@@ -196,7 +203,7 @@ int load(const char *file, const char *list)
 int unload(void)
 {
 	struct kernel kernel;
-	struct timespec nap = { 0, 20000000 };
+	struct timespec nap = {0, 20000000};
 	int status = kernel_open(&kernel), pid;
 
 	if (status)

@@ -20,24 +20,28 @@ static void print_tables(const struct kernel *kernel)
 	word_t now = now_ns(), counts = state->word / 2, t0 = kernel->set.t0, round = kernel->set.round_ns;
 	unsigned int plan = state->word & 1;
 
-	printf("tables %s, round %llu of %llu ns\n", state->from[now < counts ? !plan : plan], (now - t0) / round, round);
+	printf("tables %s, round %llu of %llu ns\n", state->from[now < counts ? !plan : plan],
+		(now - t0) / round, round);
 	if (now < counts)
 		printf("tables %s count from round %llu\n", state->from[plan], (counts - t0) / round);
 	if (kernel_runs(kernel))
 		printf("in force, held by process %d\n", state->loader);
 	else
-		printf("ended: %s %s\n", state->exit_kind ? state->exit_reason : "its process is gone", state->exit_msg);
+		printf("ended: %s %s\n", state->exit_kind ? state->exit_reason : "its process is gone",
+			state->exit_msg);
 }
 
 static void print_cores(const struct kernel *kernel)
 {
-	printf("core  cpu      slots     shared       idle   borders    quanta  strays  strangers  late us  most us\n");
+	printf("core  cpu      slots     shared       idle   borders    quanta  strays  strangers  late us  "
+	       "most us\n");
 	for (unsigned int c = 0; c < kernel->set.ncores; c++) {
 		const struct tab_core *k = &kernel->state->cores[c];
 		double late = k->borders ? k->late_sum / 1e3 / k->borders : 0;
 
-		printf("%4u %4d %10llu %10llu %10llu %9llu %9llu %7llu %10llu %8.1f %8.1f\n", c, kernel->set.cpu_of[c], k->slots,
-		       k->shares, k->idle, k->borders, k->quanta, k->strays, k->strangers, late, k->late_max / 1e3);
+		printf("%4u %4d %10llu %10llu %10llu %9llu %9llu %7llu %10llu %8.1f %8.1f\n", c,
+			kernel->set.cpu_of[c], k->slots, k->shares, k->idle, k->borders, k->quanta, k->strays,
+			k->strangers, late, k->late_max / 1e3);
 	}
 }
 
@@ -51,7 +55,7 @@ static void print_vcpus(const struct kernel *kernel)
 
 		if (home >= 0)
 			printf("%-32s %5d %8d %12.3f %12.3f\n", state->name[id], home, thread_of(kernel, id),
-			       state->vcpus[id].ran[0] / 1e6, state->vcpus[id].ran[1] / 1e6);
+				state->vcpus[id].ran[0] / 1e6, state->vcpus[id].ran[1] / 1e6);
 	}
 }
 
@@ -120,7 +124,8 @@ static void print_event(const struct kernel *kernel, const char *line)
 	at = strstr(event, " prev_pid=");
 	name = at ? name_of(kernel, at + 10) : NULL;
 	if (name)
-		printf("%llu,%s,%s,%d\n", us, name, strstr(at, " prev_state=R") ? "wait" : "block", atoi(cpu + 2));
+		printf("%llu,%s,%s,%d\n", us, name, strstr(at, " prev_state=R") ? "wait" : "block",
+			atoi(cpu + 2));
 	at = strstr(event, " next_pid=");
 	name = at ? name_of(kernel, at + 10) : NULL;
 	if (name)
@@ -145,7 +150,7 @@ static bool trace_start(const struct kernel *kernel)
 
 static void trace_read(const struct kernel *kernel, word_t until)
 {
-	struct pollfd in = { .fd = open(TRACE "/trace_pipe", O_RDONLY | O_NONBLOCK), .events = POLLIN };
+	struct pollfd in = {.fd = open(TRACE "/trace_pipe", O_RDONLY | O_NONBLOCK), .events = POLLIN};
 	static char text[1 << 16];
 	size_t have = 0;
 	ssize_t n;
@@ -180,11 +185,11 @@ int trace(const char *seconds)
 	status = kernel_open(&kernel);
 	if (status)
 		return status;
-	close(kernel.lock);	/* others may go on meanwhile */
+	close(kernel.lock); /* others may go on meanwhile */
 	kernel.lock = 0;
 	if (!trace_start(&kernel))
-		status = refuse(MACHINE, "no tracefs", TRACE ": %s. mount -t tracefs tracing /sys/kernel/tracing",
-				strerror(errno));
+		status = refuse(MACHINE, "no tracefs",
+			TRACE ": %s. mount -t tracefs tracing /sys/kernel/tracing", strerror(errno));
 	else
 		trace_read(&kernel, now_ns() + (word_t)(s * 1e9));
 	rmdir(TRACE);

@@ -2,12 +2,12 @@
  * What the scheduler in the kernel, tableau-linux and the tests share. */
 #ifndef TABLE_H
 #define TABLE_H
-#define MAXCORE 32		/* cores with a row */
-#define MAXV 256		/* vCPUs of a plan */
+#define MAXCORE 32 /* cores with a row */
+#define MAXV 256   /* vCPUs of a plan */
 #define WORDS (MAXV / 64)
-#define MAXSPAN 102600		/* spans of a row: one for each tick */
+#define MAXSPAN 102600 /* spans of a row: one for each tick */
 #define SPANBITS 17
-#define MAXID (2 * MAXV)	/* vCPUs of the plan in force and of the one that follows it */
+#define MAXID (2 * MAXV) /* vCPUs of the plan in force and of the one that follows it */
 #define MAXCPU 8192
 #define NOBODY (-1)
 
@@ -21,26 +21,26 @@ struct tab_span {
 
 /* What tableau-linux sets before it loads. */
 struct tab_settings {
-	word_t t0, round_ns;	/* rounds begin at t0 of CLOCK_MONOTONIC */
-	unsigned int ncores, room;	/* room: spans of a plan, in all rows together */
+	word_t t0, round_ns;	   /* rounds begin at t0 of CLOCK_MONOTONIC */
+	unsigned int ncores, room; /* room: spans of a plan, in all rows together */
 	int cpu_of[MAXCORE];
-	unsigned char core_of[MAXCPU];	/* 255: no core of the tables */
+	unsigned char core_of[MAXCPU]; /* 255: no core of the tables */
 };
 
 /* What one core does, and what it has counted. All of it is written on that CPU alone. */
 struct tab_core {
-	word_t begin, end;	/* the span that it looked up last, absolute; none where both are 0 */
-	word_t round;		/* when the round of that span began */
-	word_t pulsed;		/* the end of the span for which the timer came last */
-	int at, plan;		/* the span's place in the row, and the row's plan */
-	int owner;		/* whose slot it is, a number of the plan */
-	int sharers;		/* whether the second level may take anybody */
-	int slot_id;		/* the vCPU for which where[] names this core */
-	int pick;		/* the vCPU that dispatch chose last, or NOBODY once a border is past */
-	int shared;		/* whether that was a shared pick */
-	int kind;		/* the same of what runs */
-	word_t direct;		/* the end of the slot in which the pick woke, if it did; 0 otherwise */
-	int last;		/* the last shared pick, a number of the plan */
+	word_t begin, end; /* the span that it looked up last, absolute; none where both are 0 */
+	word_t round;	   /* when the round of that span began */
+	word_t pulsed;	   /* the end of the span for which the timer came last */
+	int at, plan;	   /* the span's place in the row, and the row's plan */
+	int owner;	   /* whose slot it is, a number of the plan */
+	int sharers;	   /* whether the second level may take anybody */
+	int slot_id;	   /* the vCPU for which where[] names this core */
+	int pick;	   /* the vCPU that dispatch chose last, or NOBODY once a border is past */
+	int shared;	   /* whether that was a shared pick */
+	int kind;	   /* the same of what runs */
+	word_t direct;	   /* the end of the slot in which the pick woke, if it did; 0 otherwise */
+	int last;	   /* the last shared pick, a number of the plan */
 	word_t dispatches, slots, shares, strangers, idle, borders, quanta, strays, late_sum, late_max;
 } __attribute__((aligned(64)));
 
@@ -54,23 +54,26 @@ struct tab_state {
 	/* From time word / 2 on plan word % 2 counts, and before it the other one: one store switches all cores. */
 	volatile word_t word;
 	word_t quantum_ns[2];
-	word_t queued[2][WORDS];	/* a bit for each number that may be in its queue; none that is there is missing */
-	unsigned int first[2][MAXCORE], spans[2][MAXCORE];	/* where a row begins in the plan's spans, and how many it has */
+	word_t queued
+		[2]
+		[WORDS]; /* a bit for each number that may be in its queue; none that is there is missing */
+	unsigned int first[2][MAXCORE],
+		spans[2][MAXCORE]; /* where a row begins in the plan's spans, and how many it has */
 	short id_of[2][MAXV];
-	short number_of[2][MAXID];	/* NOBODY: the plan doesn't have it */
-	signed char home[2][MAXID];	/* a core, or NOBODY */
-	signed char where[MAXID];	/* the core in whose slot it is, or NOBODY */
+	short number_of[2][MAXID];  /* NOBODY: the plan doesn't have it */
+	signed char home[2][MAXID]; /* a core, or NOBODY */
+	signed char where[MAXID];   /* the core in whose slot it is, or NOBODY */
 	struct tab_vcpu vcpus[MAXID];
 	struct tab_core cores[MAXCORE];
 	volatile int exit_kind;
-	int loader;		/* the process that holds the link */
+	int loader; /* the process that holds the link */
 	char exit_reason[128], exit_msg[256];
-	char from[2][24];	/* which host and plan the tables are of */
+	char from[2][24]; /* which host and plan the tables are of */
 	char name[MAXID][40];
 };
 
 #ifdef __clang__
-#define UNROLL _Pragma("unroll")	/* the verifier wants no loop here */
+#define UNROLL _Pragma("unroll") /* the verifier wants no loop here */
 #else
 #define UNROLL
 #endif
@@ -96,7 +99,8 @@ static inline int least(const word_t words[WORDS], unsigned int from)
  * pick, else the least eligible number, else NOBODY. */
 #ifdef PROVED
 /* That of the crate choice_words, which is proved; 256 or more is nobody. */
-extern unsigned int tableau_choice(unsigned int owner, const word_t *sharers, const word_t *runnable, unsigned int last);
+extern unsigned int tableau_choice(
+	unsigned int owner, const word_t *sharers, const word_t *runnable, unsigned int last);
 static inline int decide(int owner, const word_t may[WORDS], const word_t runnable[WORDS], int last)
 {
 	unsigned int v = tableau_choice(owner < 0 ? MAXV : owner, may, runnable, last < 0 ? MAXV : last);

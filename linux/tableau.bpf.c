@@ -18,9 +18,9 @@ char _license[] SEC("license") = "Dual MIT/GPL";
 #define CLOCK_MONOTONIC 1
 #define ENXIO 6
 #define EBUSY 16
-#define TIMER_FLAGS 3		/* BPF_F_TIMER_ABS | BPF_F_TIMER_CPU_PIN */
-#define STRANGERS MAXID		/* the queue of threads that are no vCPU */
-#define BEFORE 1000000		/* ns after which the timer looks again where no span counts */
+#define TIMER_FLAGS 3	/* BPF_F_TIMER_ABS | BPF_F_TIMER_CPU_PIN */
+#define STRANGERS MAXID /* the queue of threads that are no vCPU */
+#define BEFORE 1000000	/* ns after which the timer looks again where no span counts */
 
 const volatile struct tab_settings set SEC(".rodata.set");
 struct tab_state state SEC(".bss.state");
@@ -28,7 +28,7 @@ struct tab_state state SEC(".bss.state");
 struct {
 	__uint(type, BPF_MAP_TYPE_ARRAY);
 	__uint(map_flags, BPF_F_MMAPABLE);
-	__uint(max_entries, 1);	/* set by tableau-linux: two plans */
+	__uint(max_entries, 1); /* set by tableau-linux: two plans */
 	__type(key, u32);
 	__type(value, struct tab_span);
 } spans SEC(".maps");
@@ -62,7 +62,8 @@ __noinline u32 find(u32 plan, u32 c, u64 place)
 {
 	u32 low = 0, n = state.spans[plan & 1][c & (MAXCORE - 1)], i;
 
-	bpf_for(i, 0, SPANBITS) {
+	bpf_for(i, 0, SPANBITS)
+	{
 		u32 next = low + (1 << (SPANBITS - 1) >> i);
 		struct tab_span *span = next < n ? span_at(plan, c, next - 1) : NULL;
 
@@ -86,7 +87,8 @@ static void enter(struct tab_core *core, u64 round)
 
 	core->round = round;
 	if (plan != core->plan && core->last >= 0)
-		core->last = state.number_of[plan & 1][state.id_of[!plan][core->last & (MAXV - 1)] & (MAXID - 1)];
+		core->last =
+			state.number_of[plan & 1][state.id_of[!plan][core->last & (MAXV - 1)] & (MAXID - 1)];
 	core->plan = plan;
 }
 
@@ -116,7 +118,7 @@ static bool look(struct tab_core *core, u32 c, u64 now)
 	}
 	if (!span || place >= span->end)
 		return false;
-	core->end = 0;		/* whoever reads it from elsewhere sees no span meanwhile */
+	core->end = 0; /* whoever reads it from elsewhere sees no span meanwhile */
 	barrier();
 	core->at = at;
 	core->begin = core->round + begin;
@@ -159,7 +161,7 @@ static struct tab_core *core_on(s32 cpu, u32 *c)
 	*c = core;
 	if (core >= MAXCORE)
 		return NULL;
-	barrier_var(core);	/* what the compiler knows of it, the verifier doesn't */
+	barrier_var(core); /* what the compiler knows of it, the verifier doesn't */
 	return &state.cores[core & (MAXCORE - 1)];
 }
 
@@ -293,7 +295,8 @@ static bool choose(struct tab_core *core, u32 c, struct task_struct *prev, s32 p
 	v = decide(span->owner, span->may, runnable, core->last);
 	if (v < 0 || run(core, v, prev, prev_id))
 		return v >= 0;
-	bpf_for(i, 0, MAXV) {
+	bpf_for(i, 0, MAXV)
+	{
 		runnable[v >> 6 & (WORDS - 1)] &= ~(1ULL << (v & 63));
 		v = decide(span->owner, span->may, runnable, core->last);
 		if (v < 0 || run(core, v, prev, prev_id))
@@ -370,7 +373,8 @@ void OPS(tab_stopping, struct task_struct *p, bool runnable)
 static void border(struct tab_core *core, u32 c, u64 now)
 {
 	u64 late = core->pulsed == core->begin ? now - core->begin : 0;
-	s32 id = core->owner < 0 ? NOBODY : state.id_of[core->plan & 1][core->owner & (MAXV - 1)], old = core->slot_id;
+	s32 id = core->owner < 0 ? NOBODY : state.id_of[core->plan & 1][core->owner & (MAXV - 1)],
+	    old = core->slot_id;
 
 	core->borders++;
 	core->late_sum += late;

@@ -5,16 +5,16 @@
 #include <string.h>
 #include "tables.h"
 
-#define TICKS 102600		/* of a round */
-#define LINESIZE 100		/* longer than any line of the text */
+#define TICKS 102600 /* of a round */
+#define LINESIZE 100 /* longer than any line of the text */
 
 struct reader {
 	const char *next, *end;
 	unsigned int line;
 	const char *why;
-	word_t sum, sum_before;	/* of all bytes up to the line's end, and up to its begin */
+	word_t sum, sum_before; /* of all bytes up to the line's end, and up to its begin */
 	char buffer[LINESIZE];
-	const char *at;		/* in buffer */
+	const char *at; /* in buffer */
 	struct tables *tables;
 };
 
@@ -120,12 +120,12 @@ static bool read_head(struct reader *r)
 	word_t from, cores, vcpus;
 
 	if (!next_line(r) || !word(r, "tableau scx 1") || !ends(r) || !next_line(r) || !word(r, "from ") ||
-	    !hex16(r, &from) || !ends(r))
+		!hex16(r, &from) || !ends(r))
 		return false;
 	snprintf(t->from, sizeof(t->from), "%016llx", from);
 	if (!line_of(r, "tick ", &t->tick_ns, 500, 2002) ||
-	    !line_of(r, "round ", &t->round_ns, TICKS * t->tick_ns, TICKS * t->tick_ns) ||
-	    !line_of(r, "quantum ", &t->quantum_ns, t->tick_ns, TICKS * t->tick_ns))
+		!line_of(r, "round ", &t->round_ns, TICKS * t->tick_ns, TICKS * t->tick_ns) ||
+		!line_of(r, "quantum ", &t->quantum_ns, t->tick_ns, TICKS * t->tick_ns))
 		return false;
 	if (t->quantum_ns % t->tick_ns)
 		return fault(r, "the quantum is no multiple of the tick");
@@ -153,8 +153,9 @@ static bool read_vcpu(struct reader *r, unsigned int v)
 	struct tables *t = r->tables;
 	word_t n;
 
-	if (!next_line(r) || !word(r, "vcpu ") || !number(r, &n, MAXV) || !word(r, " ") || !name(r, t->vcpu[v].name) ||
-	    !word(r, " ") || !number_or_none(r, &t->vcpu[v].home, t->cores) || !word(r, " "))
+	if (!next_line(r) || !word(r, "vcpu ") || !number(r, &n, MAXV) || !word(r, " ") ||
+		!name(r, t->vcpu[v].name) || !word(r, " ") ||
+		!number_or_none(r, &t->vcpu[v].home, t->cores) || !word(r, " "))
 		return false;
 	if (n != v)
 		return fault(r, "the vCPUs aren't numbered in order");
@@ -186,7 +187,8 @@ static bool read_may(struct reader *r, unsigned int c, struct tab_span *span)
 		for (word_t left = span->may[i]; left; left &= left - 1) {
 			unsigned int v = 64 * i + __builtin_ctzll(left);
 
-			if (v >= t->vcpus || t->vcpu[v].home != (int)c || t->vcpu[v].capped || (int)v == span->owner)
+			if (v >= t->vcpus || t->vcpu[v].home != (int)c || t->vcpu[v].capped ||
+				(int)v == span->owner)
 				return fault(r, "MAY has a vCPU that this core's second level can't take");
 		}
 	}
@@ -213,7 +215,8 @@ static bool read_core(struct reader *r, unsigned int c)
 	for (unsigned int i = 0; i < n; i++) {
 		struct tab_span *span = &t->row[c][i];
 
-		if (!read_end(r, &span->end, before, i + 1 == n) || !number_or_none(r, &span->owner, t->vcpus))
+		if (!read_end(r, &span->end, before, i + 1 == n) ||
+			!number_or_none(r, &span->owner, t->vcpus))
 			return false;
 		if (span->owner >= 0 && t->vcpu[span->owner].home < 0)
 			return fault(r, "the slot is that of a vCPU without a home");
@@ -252,12 +255,13 @@ static bool read_where(struct reader *r, unsigned int v)
 	int c;
 
 	if (!next_line(r) || !word(r, "where ") || !number(r, &n, MAXV) || !word(r, " ") ||
-	    !number(r, &stretches, 2 * TICKS) || !ends(r))
+		!number(r, &stretches, 2 * TICKS) || !ends(r))
 		return false;
 	if (n != v || !stretches)
 		return fault(r, "the vCPUs aren't numbered in order, or one has no row");
 	for (word_t i = 0; i < stretches; i++) {
-		if (!read_end(r, &end, before, i + 1 == stretches) || !number_or_none(r, &c, t->cores) || !ends(r))
+		if (!read_end(r, &end, before, i + 1 == stretches) || !number_or_none(r, &c, t->cores) ||
+			!ends(r))
 			return false;
 		if (c >= 0 && !is_slot(t, c, v, before, end))
 			return fault(r, "the vCPU is in no slot there by that core's row");
@@ -293,7 +297,8 @@ static bool read_all(struct reader *r)
 
 unsigned int tables_read(const char *text, size_t size, struct tables *tables, const char **why)
 {
-	struct reader r = { .next = text, .end = text + size, .sum = 14695981039346656037ULL, .tables = tables };
+	struct reader r = {
+		.next = text, .end = text + size, .sum = 14695981039346656037ULL, .tables = tables};
 
 	memset(tables, 0, sizeof(*tables));
 	if (read_all(&r))

@@ -13,9 +13,9 @@ struct tables {
 	char from[17];
 	struct {
 		char name[NAMESIZE];
-		int home;	/* NOBODY: not admitted */
+		int home; /* NOBODY: not admitted */
 		bool capped;
-		word_t slots_ns;	/* of a round */
+		word_t slots_ns; /* of a round */
 	} vcpu[MAXV];
 	unsigned int spans[MAXCORE];
 	struct tab_span *row[MAXCORE];
@@ -25,6 +25,6 @@ struct tables {
  * what was read are freed by tables_free, whatever the answer was. */
 unsigned int tables_read(const char *text, size_t size, struct tables *tables, const char **why);
 void tables_free(struct tables *tables);
-unsigned int tables_spans(const struct tables *tables);	/* of all rows */
-int tables_vcpu(const struct tables *tables, const char *name);	/* NOBODY: there is none */
+unsigned int tables_spans(const struct tables *tables);		/* of all rows */
+int tables_vcpu(const struct tables *tables, const char *name); /* NOBODY: there is none */
 #endif

@@ -17,7 +17,7 @@
 
 static int set_policy(pid_t tid, int policy)
 {
-	struct sched_param param = { 0 };
+	struct sched_param param = {0};
 
 	return syscall(SYS_sched_setscheduler, tid, policy, &param) ? errno : 0;
 }
@@ -90,8 +90,10 @@ static int take_by_name(struct kernel *kernel, const char *name, pid_t tid)
 		return refuse(TABLES, "no such vCPU", "the tables have no row for %s", name);
 	err = thread_take(kernel, id, tid);
 	if (err == EINVAL)
-		return refuse(MACHINE, "the thread may not run there", "thread %d's cpuset doesn't have the tables' CPUs:"
-			      " put it into a cgroup that has them, and take vcpupin lines out of the guest", tid);
+		return refuse(MACHINE, "the thread may not run there",
+			"thread %d's cpuset doesn't have the tables' CPUs:"
+			" put it into a cgroup that has them, and take vcpupin lines out of the guest",
+			tid);
 	return err ? refuse(MACHINE, "the thread isn't taken", "thread %d: %s", tid, strerror(err)) : DONE;
 }
 
@@ -151,7 +153,8 @@ static bool guest_of(pid_t process, char guest[64])
 	for (char *word = line; !has && word < line + n; word += strlen(word) + 1)
 		if (!strcmp(word, "-name") || !strcmp(word, "--name")) {
 			word += strlen(word) + 1;
-			has = sscanf(strstr(word, "guest=") ? strstr(word, "guest=") + 6 : word, "%63[^,]", guest) == 1;
+			has = sscanf(strstr(word, "guest=") ? strstr(word, "guest=") + 6 : word, "%63[^,]",
+				      guest) == 1;
 		}
 	return has;
 }
@@ -169,7 +172,7 @@ static void find_in(pid_t process)
 	while (tasks && (entry = readdir(tasks)) && nfound < MAXFOUND) {
 		snprintf(path, sizeof(path), "/proc/%d/task/%.16s/comm", process, entry->d_name);
 		if (!read_text(path, comm, sizeof(comm)) || sscanf(comm, "CPU %u/%7s", &number, kind) != 2 ||
-		    (strcmp(kind, "KVM") && strcmp(kind, "TCG")))
+			(strcmp(kind, "KVM") && strcmp(kind, "TCG")))
 			continue;
 		if (!*guest && !guest_of(process, guest))
 			break;
@@ -196,7 +199,8 @@ static int name_by(const char *map)
 		n++;
 		if (sscanf(line, "%32s %63s %u %1s", name, guest, &number, more) != 3) {
 			fclose(f);
-			return refuse(INPUT, "the map can't be read", "line %u of %s isn't NAME GUEST N", n, map);
+			return refuse(
+				INPUT, "the map can't be read", "line %u of %s isn't NAME GUEST N", n, map);
 		}
 		for (unsigned int i = 0; i < nfound; i++)
 			if (!strcmp(found[i].guest, guest) && found[i].number == number)
@@ -237,7 +241,7 @@ static void take_found(struct kernel *kernel)
 
 int watch(bool list, const char *map)
 {
-	struct timespec nap = { 1, 0 };
+	struct timespec nap = {1, 0};
 	struct kernel kernel;
 	int status = find_all(map);
 

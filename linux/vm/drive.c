@@ -79,7 +79,7 @@ int main(int argc, char **argv)
 				CPU_SET(c, &set);
 			sched_setaffinity(0, sizeof(set), &set);
 			if (!strcmp(kind, "ext"))
-				syscall(SYS_sched_setscheduler, 0, 7, &(struct sched_param) { 0 });
+				syscall(SYS_sched_setscheduler, 0, 7, &(struct sched_param){0});
 			work(run, nap);
 		}
 		fprintf(f, "%d %s\n", child, argv[i]);
