@@ -1,17 +1,18 @@
 use crate::phase::Phase;
 use crate::turning::Progress;
-use std::hint::spin_loop;
+use crossbeam_utils::Backoff;
 use std::thread::{sleep, yield_now};
 use std::time::{Clock, Duration, Instant};
 
 /// How many turns in a row in which nobody gets on end `drive_all`, and a worker's thread too at the latest.
 pub const PATIENCE: u32 = 10_000_000;
 
-// In how many turns of a wait a thread spins and doesn't ask the clock: some 50 us. They don't count, since a shorter wait is the
-// price of being side by side. In each turn after them it asks the clock, and lets others have its processor, since they may
-// include the thread that it waits for. A yield takes half a microsecond on an idle machine, and a time slice of some 4 ms on a
-// busy one.
-const SPINS: u32 = 1_024;
+// In how many turns of a wait a thread only spins, from one pause before the next turn to 64, and doesn't ask the clock: some 100 us.
+// They don't count, since a shorter wait is the price of being side by side. Each look at the others' clocks takes the words away
+// from the threads that write them, which is why the pauses grow. In each turn after these the thread asks the clock too, and lets
+// others have its processor, since they may include the thread that it waits for. A yield takes half a microsecond on an idle
+// machine, and a time slice of some 4 ms on a busy one.
+const SPINS: u32 = 40;
 
 // A thread that gets on asks the clock once in so many turns, which takes some 50 ns.
 const STRIDE: u32 = 16;
@@ -35,6 +36,8 @@ pub(crate) struct Patience<'a, K: Clock> {
     since: Option<Instant>,
     // Whether all threads were seen to have come.
     sees_all: bool,
+    // How long the next pause is.
+    backoff: Backoff,
 }
 
 impl<'a, K: Clock> Patience<'a, K> {
@@ -50,6 +53,7 @@ impl<'a, K: Clock> Patience<'a, K> {
             waited: Duration::ZERO,
             since: None,
             sees_all: false,
+            backoff: Backoff::new(),
         }
     }
 
@@ -87,6 +91,7 @@ impl<'a, K: Clock> Patience<'a, K> {
     #[inline(never)]
     fn end_wait(&mut self) {
         self.vain = 0;
+        self.backoff.reset();
         if self.since.is_some() {
             if let Ok(now) = Instant::now(self.clock) {
                 self.waited = self.waited_until(now);
@@ -109,8 +114,8 @@ impl<'a, K: Clock> Patience<'a, K> {
         if self.vain == 1 && self.phase.is_over() {
             return false;
         }
+        self.backoff.spin();
         if self.vain < SPINS {
-            spin_loop();
             return true;
         }
         if self.vain >= PATIENCE {

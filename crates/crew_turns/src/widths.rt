@@ -2,9 +2,9 @@ use crate::phase::Phase;
 use std::sync::atomic::AtomicBool;
 use std::time::Duration;
 
-// For how many microseconds workers of all cores are tried, where there are more of them than processors, and one thread. Fewer
-// threads than workers have half of it, half as many a quarter, and so on. So all trials together take less than twice as long,
-// besides that of one thread, which loses nothing.
+// For how many microseconds workers of all cores are tried where there are more of them than processors, and as many threads as
+// processors, and one thread. Half as many threads have half of it, a quarter of them a quarter. All trials together take less than
+// three times as long, besides that of one thread, which loses nothing.
 const TRIAL: u64 = 5_000;
 
 // After a late phase one thread goes on for 2 to the power of this times its trial, 80 milliseconds, before others are tried.
@@ -48,7 +48,11 @@ impl Widths {
     /// The next phase. `ready` says whether its time counts yet.
     pub(crate) fn phase<'a>(&self, ready: &'a AtomicBool) -> Phase<'a> {
         let threads = self.threads.get(self.place).copied().unwrap_or(1);
-        let halves = if threads <= 1 { 0 } else { self.place as u32 };
+        let halves = if threads <= 1 {
+            0
+        } else {
+            (self.place as u32).saturating_sub(1)
+        };
         let least = TRIAL.checked_shr(halves).unwrap_or(0);
         let allowed = least.saturating_mul(1 << self.times.min(DOUBLINGS));
         let own = self.place == 0;
@@ -86,13 +90,14 @@ impl Widths {
         true
     }
 
-    // Takes the others for faster by a sixteenth than before. So one that is about as fast is soon tried again, in a phase of an
-    // eighth of the present one's time, and one that is slow is not.
+    // Takes the others for faster by an eighth than before. So one that is about as fast is soon tried again, in a phase of an
+    // eighth of the present one's time, and one that is slow is not. A first trial may flatter one of them by half, since other
+    // programs and cold caches disturb it; six phases later the other is tried again.
     fn raise_others(&mut self) {
         for place in 0..8 {
             if place != self.place {
                 let pace = self.paces[place];
-                self.paces[place] = pace.saturating_add(pace / 16);
+                self.paces[place] = pace.saturating_add(pace / 8);
             }
         }
     }
