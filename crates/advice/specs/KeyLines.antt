@@ -1,7 +1,7 @@
 -- The line of a host document that an advice names: the one that gives a key its value, or the one that begins a vCPU.
 -- Source: TOML 1.0, "Key/Value Pair", "Array of Tables" and "Inline Table". A line is read by its first words alone, so
 -- one with a key in quotes is passed over, and the advice then names none.
-use Rattle.std.specs.Prelude.{ℕ, Bool, false, true, ◌+◌, ◌-◌, ◌==◌, ◌&&◌, ◌||◌, nat_eq, nat_le, not, if◌then◌else◌, List, [], ◌∷◌, ◌++◌, bytes_eq, codes, decimal, drop, length, Option, Some, None, slice_get}
+use Rattle.std.specs.Prelude.{ℕ, Bool, false, true, ◌+◌, ◌-◌, ◌==◌, ◌&&◌, ◌||◌, nat_eq, nat_le, not, if◌then◌else◌, List, [], ◌∷◌, bytes_eq, codes, drop, length, Option, Some, None, slice_get}
 use Rattle.std.specs.List.{starts_with}
 use Rattle.std.specs.Option.{option_or}
 use Rattle.tab_words.specs.Lines.{lines_of}

@@ -1,5 +1,5 @@
 -- The advice on a key of a host document: whose it is, its line, which key is unknown, and what the key has to be.
-use Rattle.std.specs.Prelude.{ℕ, ℤ, pos, Bool, false, true, ◌==◌, if◌then◌else◌, List, [], ◌∷◌, ◌++◌, codes, decimal, Option, Some, None, option_and_then, option_map}
+use Rattle.std.specs.Prelude.{ℕ, ℤ, pos, Bool, false, true, ◌==◌, if◌then◌else◌, List, [], ◌∷◌, ◌++◌, codes, decimal, Option, Some, None, option_and_then}
 use Rattle.std.specs.Option.{option_or}
 use Rattle.toml.specs.Data.{as_array, as_integer, as_str, as_table, get_item, get_member, Members, no_members, member}
 use Rattle.host_doc.specs.KeyTable.{first_keys, vcpu_keys}

@@ -1,7 +1,7 @@
 -- What a text is that was given by mistake, and what is said of it.
 -- Source: the first bytes of UTF-16 are those of RFC 2781, section 3.2, and of what it writes of ASCII. The other kinds are
 -- seen by the first line that says something.
-use Rattle.std.specs.Prelude.{ℕ, Bool, false, true, ◌==◌, ◌&&◌, ◌||◌, nat_eq, nat_lt, not, if◌then◌else◌, List, [], ◌∷◌, ◌++◌, bytes_eq, codes, drop, slice_index_or}
+use Rattle.std.specs.Prelude.{ℕ, Bool, false, ◌==◌, ◌&&◌, ◌||◌, nat_eq, nat_lt, not, if◌then◌else◌, List, [], ◌∷◌, bytes_eq, codes, drop, slice_index_or}
 use Rattle.std.specs.List.{ends_with, list_any, starts_with}
 use Rattle.script_doc.specs.Statements.{is_skipped}
 use Rattle.tab_words.specs.Lines.{lines_of}

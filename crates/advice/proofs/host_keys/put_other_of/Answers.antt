@@ -1,9 +1,8 @@
-use Rattle.std.proofs.Common.{◌≡◌, List, ℕ, ◌++◌, codes, option_map, subst}
+use Rattle.std.proofs.Common.{List, ℕ, ◌++◌, codes, option_map, subst}
 use Rattle.tab_io.specs.Sinks.{Writes}
 use Rattle.advice.specs.KeyLines.{line_part}
-use Rattle.advice.specs.Keys.{host_rule, other_line}
+use Rattle.advice.specs.Keys.{other_line}
 use Rattle.advice.specs.Parts.{quote_of}
-use Rattle.host_doc.specs.declared.fault.Key.TheVariants.{Unknown}
 use Rattle.advice.proofs.host_keys.put_other_of.Goals as goal
 
 pub returns : goal.returns
