@@ -118,7 +118,7 @@ pub(crate) fn judge_words<'w>(matches: &'w ArgMatches<'_>) -> JudgeWords<'w> {
         host: matches.get_str("HOST"),
         trace: matches.get_str("TRACE"),
         plan: matches.get_str("plan"),
-        window_ms: matches.get_one::<u32>("window"),
+        window: matches.get_str("window"),
         is_json: matches.get_flag("json"),
     }
 }
@@ -129,6 +129,7 @@ pub(crate) fn size_words<'w, 'm: 'w>(matches: &'w ArgMatches<'m>) -> SizeWords<'
         cores: matches.get_one::<u32>("cores"),
         tick_ns: matches.get_one::<u32>("tick"),
         sizes: matches.get_strs("SIZE"),
+        empty: matches.get_flag("empty"),
     }
 }
 
@@ -144,5 +145,6 @@ pub(crate) fn place_words<'w, 'm: 'w>(matches: &'w ArgMatches<'m>) -> PlaceWords
         summary: matches.get_flag("summary"),
         tick_ns: matches.get_one::<u32>("tick"),
         sizes: matches.get_strs("SIZE"),
+        empty: matches.get_flag("empty"),
     }
 }
