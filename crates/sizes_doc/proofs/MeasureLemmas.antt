@@ -3,7 +3,7 @@ use Rattle.std.proofs.Common.{◌≡◌, inl, inr, codes, [], ℕ, ◌<◌, List
 use Rattle.std.proofs.lemmas.List.{append_cancel_right}
 use Rattle.tab_core.specs.declared.TheConstants.{MAX_LATENCY_NS, WHOLE_PPM}
 use Rattle.sizes_doc.specs.Inside.Held.{HoldsSaturated}
-use Rattle.sizes_doc.specs.Sizes.{HasPoint, IsBadLatency, IsBadShare, IsMeasure, IsNoShare, IsPercent, IsPercentage, IsShareAbove, IsShareWord, IsPointed, IsTime, IsTimeAbove, IsTimeIn}
+use Rattle.sizes_doc.specs.Sizes.{HasPoint, IsBadLatency, IsBadShare, IsMeasure, IsNoShare, IsPercent, IsPercentage, IsShareAbove, IsShareWord, IsPointed, IsTime, IsTimeAbove, IsTimeIn, IsTimeOr}
 use Rattle.sizes_doc.specs.declared.fault.Part.TheVariants as part
 
 -- what holds a value of one kind holds it of a wider kind
@@ -118,3 +118,12 @@ time_in_with unit factor word None no_whole read = λ n is.
     elim is [ inl whole ↦ no_whole n whole | inr point ↦ read n point ]
 time_in_with unit factor word (Some held) no_whole read =
     held_of (IsPointed unit factor word) (λ n. IsTimeIn unit factor word n) held (λ n is. inr is) read
+
+-- a time may be a number without a unit
+pub time_or_with : (factor : ℕ) (word : List ℕ) (r : Option ℕ) → ((n : ℕ) → IsMeasure [] factor word n → ⊥)
+    → MatchOption r ((n : ℕ) → IsTime word n → ⊥) (HoldsSaturated (IsTime word))
+    → MatchOption r ((n : ℕ) → IsTimeOr factor word n → ⊥) (HoldsSaturated (IsTimeOr factor word))
+time_or_with factor word None no_number read = λ n is.
+    elim is [ inl number ↦ no_number n number | inr time ↦ read n time ]
+time_or_with factor word (Some held) no_number read =
+    held_of (λ n. IsTime word n) (λ n. IsTimeOr factor word n) held (λ n is. inr is) read

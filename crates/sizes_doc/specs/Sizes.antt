@@ -112,6 +112,10 @@ IsTime word ns = IsTimeIn (codes "ms") 1000000 word ns
     ⊎ (IsTimeIn (codes "us") 1000 word ns
     ⊎ (IsTimeIn (codes "ns") 1 word ns ⊎ IsTimeIn (codes "s") 1000000000 word ns))
 
+-- the word is a time of so many nanoseconds, in a unit, or without one in units of so many
+abbrev pub IsTimeOr : ℕ → List ℕ → ℕ → Type 0
+IsTimeOr factor word ns = IsMeasure [] factor word ns ⊎ IsTime word ns
+
 -- the word is this latency in nanoseconds
 pub record IsLatency (word : List ℕ) (ns : ℕ) : Type 0 where
   pub bounded : ns ≤ MAX_LATENCY_NS

@@ -1,6 +1,6 @@
 ghost use Rattle.std.specs.Prelude.{◌≡◌, ◌≢◌, ℕ, ◌*◌, ◌++◌, ◌≤◌, List, IfErr, IfOk, MatchOption, decimal};
 ghost use Rattle.sizes_doc.specs.Inside.Held.{HoldsSaturated, IsSaturated};
-ghost use Rattle.sizes_doc.specs.Sizes.{IsBadLatency, IsBadShare, IsCount, IsLatency, IsMeasure, IsPercent, IsPercentage, IsPointed, IsShare, IsShareWord, IsTime, IsTimeIn};
+ghost use Rattle.sizes_doc.specs.Sizes.{IsBadLatency, IsBadShare, IsCount, IsLatency, IsMeasure, IsPercent, IsPercentage, IsPointed, IsShare, IsShareWord, IsTime, IsTimeIn, IsTimeOr};
 
 use crate::decimals::pointed_of;
 use crate::fault::Part;
@@ -92,9 +92,8 @@ fn percentage_of(bytes: &[u8]) -> Option<u64>
     pointed_of(bytes, 4, 10_000)
 }
 
-/// The nanoseconds that a time is, or 2^64 - 1 if there are more: a number of s, ms, us or ns, as `20ms`, with up to nine
-/// decimals, as `1.5ms`. There are none if the word is no such time, or comes to no whole nanoseconds.
-pub fn read_time(word: &[u8]) -> Option<u64>
+// The nanoseconds that a time is, or 2^64 - 1 if there are more.
+fn read_time(word: &[u8]) -> Option<u64>
     ensures { MatchOption result ((ns : ℕ) → IsTime word.now ns → ⊥) (HoldsSaturated (IsTime word.now)) }
 {
     if let Some(ns) = time_in(word, b"ms", 1_000_000) {
@@ -107,6 +106,19 @@ pub fn read_time(word: &[u8]) -> Option<u64>
         return Some(ns);
     }
     time_in(word, b"s", 1_000_000_000)
+}
+
+/// The nanoseconds that a time is, or 2^64 - 1 if there are more: a number of s, ms, us or ns, as `20ms`, with up to nine
+/// decimals, as `1.5ms`, or a whole number without a unit, which counts units of so many nanoseconds. There are none if the
+/// word is no such time, or comes to no whole nanoseconds.
+pub fn read_time_or(word: &[u8], factor: u64) -> Option<u64>
+    ensures { MatchOption result ((ns : ℕ) → IsTimeOr factor word.now ns → ⊥)
+        (HoldsSaturated (IsTimeOr factor word.now)) }
+{
+    if let Some(ns) = in_unit(word, b"", factor) {
+        return Some(ns);
+    }
+    read_time(word)
 }
 
 // The nanoseconds that a time in this unit is.

@@ -5,7 +5,7 @@
 use clap::builder::ValueParser;
 use clap::{Arg, ArgAction, Command};
 use std::alloc::{AllocError, Global};
-use tab_core::{MAX_CORES, MAX_TICK_NS, MIN_TICK_NS};
+use tab_core::MAX_CORES;
 
 // What `--version` says. A program that knew its revision would be another with each of them, so the installation has it.
 const VERSION: &str =
@@ -74,11 +74,8 @@ const FILE: Word = Word {
 // How long a tick is.
 const TICK: Word = Word {
     name: "tick",
-    kind: Kind::Option(
-        "NS",
-        ValueParser::Signed(MIN_TICK_NS as i64, MAX_TICK_NS as i64),
-    ),
-    help: "Nanoseconds of a tick; without it, 1001",
+    kind: Kind::Option("NS", TEXT),
+    help: "Nanoseconds of a tick, 500 to 2002, or a time as 1us; without it, 1001",
     ..VALUE
 };
 

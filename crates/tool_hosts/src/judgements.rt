@@ -4,22 +4,25 @@ ghost use Rattle.tab_core.specs.declared.TheConstants.{MAX_VCPUS};
 use crate::promises::owed_of;
 use host_judge::{JudgeFault, Owed, Report, judge_trace};
 use script_doc::is_skipped;
-use sizes_doc::read_time;
+use sizes_doc::read_time_or;
 use std::alloc::Global;
 use std::fs;
 use std::io::Read;
 use tab_core::Vcpu;
 use tab_io::StdSource;
-use tab_words::{Lines, read_number};
+use tab_words::Lines;
 use tool_input::{
     Fault, Input, ends_in_return, finish, host_of, input_of, output_of, place_of, read_once, shown,
     trace_fault, unread,
 };
 use view_judge::{Verdict, verdict_of, write_json, write_tables};
 
+// Nanoseconds of a millisecond.
+const MILLI_NS: u64 = 1_000_000;
+
 // Nanoseconds of a window where the words name none, and of the shortest and the longest one.
 const WINDOW_NS: u64 = 1_000_000_000;
-const LEAST_NS: u64 = 1_000_000;
+const LEAST_NS: u64 = MILLI_NS;
 const MOST_NS: u64 = 3_600_000_000_000;
 
 /// What the words of `judge` say.
@@ -84,19 +87,11 @@ fn window_of(alloc: Global, word: Option<&str>) -> Result<u64, Fault>
     let Some(word) = word else {
         return Ok(WINDOW_NS);
     };
-    match window_ns(word.as_bytes()) {
+    match read_time_or(word.as_bytes(), MILLI_NS) {
         Some(ns) if ns >= LEAST_NS && ns <= MOST_NS => Ok(ns),
         _ => Err(Fault::BadWindow {
             text: shown(alloc, word.as_bytes())?,
         }),
-    }
-}
-
-// Nanoseconds of a word, which is a number of milliseconds or a time with its unit. (More than a time may have are the most.)
-fn window_ns(word: &[u8]) -> Option<u64> {
-    match read_number(word) {
-        Some(ms) => Some(ms.saturating_mul(LEAST_NS)),
-        None => read_time(word),
     }
 }
 

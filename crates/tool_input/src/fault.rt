@@ -239,6 +239,10 @@ pub enum Fault {
     BadWindow {
         text: String,
     },
+    #[error("--tick {text} isn't 500ns to 2002ns in whole nanoseconds: write nanoseconds, as 1000, or a time, as 1us")]
+    BadTick {
+        text: String,
+    },
     #[error("a word of the command isn't text")]
     NoText,
     #[error("the cores or vCPUs aren't of the form FIRST-LAST")]
@@ -286,6 +290,7 @@ impl Fault {
             | Fault::TextByVcpu
             | Fault::TooNarrow
             | Fault::BadWindow { .. }
+            | Fault::BadTick { .. }
             | Fault::OldOfRun
             | Fault::NoSuchHost { .. }
             | Fault::NoFleet
