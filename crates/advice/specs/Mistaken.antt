@@ -125,3 +125,16 @@ plan_kind_text Refusal other = codes "; it is the refusal of an earlier call: do
 plan_kind_text Return other = codes "; it ends in CR LF, and lines end in LF alone: tableau-tools sections mends that"
 plan_kind_text Host other = codes "; it is of a host document: tableau plan makes the plan of it"
 plan_kind_text kind other = other
+
+-- what a line is that is none of a script: the first of a plan, or as none of a plan
+abbrev pub kind_of_script_line : List ℕ → Kind
+kind_of_script_line line = if is_plan (first_of_words (words_of line)) (first_of_words (drop 1 (words_of line))) then Plan
+    else kind_of_plan_line line
+
+-- what is said of a line that is none of a script; of one that is of no other text, these words
+abbrev pub script_kind_text : Kind → List ℕ → List ℕ
+script_kind_text Refusal other = codes "it is the refusal of an earlier call: do what that says first"
+script_kind_text Plan other = codes "it is the first line of a plan, and a script is wanted there"
+script_kind_text Return other = codes "it ends in CR LF, and lines end in LF alone:\ntableau: tableau-tools sections mends that"
+script_kind_text Host other = codes "it is of a host document, which comes before the script"
+script_kind_text kind other = other

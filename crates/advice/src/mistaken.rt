@@ -1,7 +1,7 @@
 //! What a text is that was given by mistake.
 ghost use Rattle.std.specs.Prelude.{◌≡◌, [], drop, slice_index_or};
 ghost use Rattle.tab_words.specs.Words.{words_of};
-ghost use Rattle.advice.specs.Mistaken.{first_of_words, first_said, has_control, is_control, is_event, is_json, is_plan, is_refusal, is_size, is_wide, is_wide_start, is_yaml, kind_of_fault, kind_of_plan_line, kind_of_text, kind_of_three, kind_of_words, kind_or, kind_text, plan_kind_text};
+ghost use Rattle.advice.specs.Mistaken.{first_of_words, first_said, has_control, is_control, is_event, is_json, is_plan, is_refusal, is_size, is_wide, is_wide_start, is_yaml, kind_of_fault, kind_of_plan_line, kind_of_script_line, kind_of_text, kind_of_three, kind_of_words, kind_or, kind_text, plan_kind_text, script_kind_text};
 
 use crate::key_lines::{begin_value, begins_vcpu};
 use script_doc::is_skipped;
@@ -245,6 +245,34 @@ pub(crate) fn plan_kind_text(kind: Kind, other: &[u8]) -> &[u8]
         Kind::Return =>
             b"; it ends in CR LF, and lines end in LF alone: tableau-tools sections mends that",
         Kind::Host => b"; it is of a host document: tableau plan makes the plan of it",
+        _ => other,
+    }
+}
+
+// What a line is that is none of a script.
+pub(crate) fn kind_of_script_line(line: &[u8]) -> Kind
+    ensures { result ≡ kind_of_script_line line.now }
+{
+    let mut words = Words::of(line);
+    let first = next_word(&mut words);
+    let second = next_word(&mut words);
+    if is_plan(first, second) {
+        Kind::Plan
+    } else {
+        kind_of_plan_line(line)
+    }
+}
+
+// What is said of a line that is none of a script; of one that is of no other text, these words.
+pub(crate) fn script_kind_text(kind: Kind, other: &[u8]) -> &[u8]
+    ensures { result.now ≡ script_kind_text kind other.now }
+{
+    match kind {
+        Kind::Refusal => b"it is the refusal of an earlier call: do what that says first",
+        Kind::Plan => b"it is the first line of a plan, and a script is wanted there",
+        Kind::Return =>
+            b"it ends in CR LF, and lines end in LF alone:\ntableau: tableau-tools sections mends that",
+        Kind::Host => b"it is of a host document, which comes before the script",
         _ => other,
     }
 }

@@ -22,7 +22,9 @@ const MILLI_NS: u64 = 1_000_000;
 
 // Nanoseconds of a window where the words name none, and of the shortest and the longest one.
 const WINDOW_NS: u64 = 1_000_000_000;
+
 const LEAST_NS: u64 = MILLI_NS;
+
 const MOST_NS: u64 = 3_600_000_000_000;
 
 /// What the words of `judge` say.
