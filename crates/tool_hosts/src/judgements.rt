@@ -1,4 +1,5 @@
-ghost use Rattle.std.specs.Prelude.{◌≡◌, ◌<◌, ◌≤◌, IfOk, length};
+ghost use Rattle.std.specs.Prelude.{◌≡◌, ◌<◌, ◌≤◌, IfOk, IfSome, length, option_map};
+ghost use Rattle.tool_hosts.specs.Windows.{IsWindow, IsWindowTime};
 ghost use Rattle.tab_core.specs.declared.TheConstants.{MAX_VCPUS};
 
 use crate::promises::owed_of;
@@ -82,19 +83,34 @@ fn is_trace(text: &[u8]) -> bool {
     false
 }
 
-// Nanoseconds of a window: those of 1 ms to an hour that a word names, or a second without one.
+// Nanoseconds of a window: those that a word names, or a second without one.
 fn window_of(alloc: Global, word: Option<&str>) -> Result<u64, Fault>
-    ensures { IfOk result (λ ns. 0 < ns) }
+    ensures window { IfOk result (IsWindow (option_map (λ text. text.now) word.entry)) }
+    ensures some { IfOk result (λ ns. 0 < ns) }
 {
     let Some(word) = word else {
         return Ok(WINDOW_NS);
     };
-    match read_time_or(word.as_bytes(), MILLI_NS) {
-        Some(ns) if ns >= LEAST_NS && ns <= MOST_NS => Ok(ns),
-        _ => Err(Fault::BadWindow {
+    match window_in(word.as_bytes()) {
+        Some(ns) => Ok(ns),
+        None => Err(Fault::BadWindow {
             text: shown(alloc, word.as_bytes())?,
         }),
     }
+}
+
+// Nanoseconds of the window that a word names, if they are those of one.
+fn window_in(word: &[u8]) -> Option<u64>
+    ensures window { IfSome result (IsWindowTime word.now) }
+    ensures some { IfSome result (λ ns. 0 < ns) }
+{
+    let Some(ns) = read_time_or(word, MILLI_NS) else {
+        return None;
+    };
+    if ns < LEAST_NS || ns > MOST_NS {
+        return None;
+    }
+    Some(ns)
 }
 
 // What is said of a trace, which is read in one pass. The path is that of its file, or nothing for standard input.
