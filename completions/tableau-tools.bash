@@ -33,9 +33,9 @@ _tableau_tools() {
           export,-*) words='--tick --first-cpu --full --map --help' ;;
           judge,-*) words='--window --plan --json --help' ;;
           sections,-*) words='--help' ;;
-          host,-*) words='--cores --tick --help' ;;
-          fit,-*) words='--cores --tick --help' ;;
-          place,-*) words='--hosts --cores --kinds --stay --host --documents --summary --tick --help' ;;
+          host,-*) words='--cores --tick --empty --help' ;;
+          fit,-*) words='--cores --tick --empty --help' ;;
+          place,-*) words='--hosts --cores --kinds --stay --host --documents --summary --tick --empty --help' ;;
           *)
             case $command,$place in
               table,0) files=yes ;;

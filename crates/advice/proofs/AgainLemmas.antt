@@ -1,5 +1,5 @@
 -- Where there is no text that tells of what a section hasn't.
-use Rattle.std.proofs.Common.{arith, ◌≡◌, ◌<◌, ℕ, List, length, Option, None, Some, subst, slice_get, sym, ◌∙◌}
+use Rattle.std.proofs.Common.{arith, codes, ◌≡◌, ◌<◌, ℕ, List, length, Option, None, Some, subst, slice_get, sym, ◌∙◌}
 use Rattle.std.proofs.lemmas.Option.{slice_get-get_or, slice_get_within}
 use Rattle.tab_core.specs.declared.host.Host.{Host}
 use Rattle.tab_core.specs.declared.periodic.Periodic.{Periodic}
@@ -11,6 +11,7 @@ use Rattle.period_choice.specs.Tasks.{AreTasksOf, IsFirstWithoutPeriod, IsTaskOf
 use Rattle.tab_core.specs.declared.reservation.Reservation.{Reservation}
 use Rattle.toml.specs.Data.{Members}
 use Rattle.advice.specs.Advice.{IsPeriodText, IsVcpuText, TellsOfBudgets, TellsOfDocument, TellsOfTasks}
+use Rattle.advice.specs.KeyLines.{vcpu_line}
 use Rattle.advice.specs.Inside.Again.{IsNoDocument, IsNoHost, LacksTasks}
 
 -- a vCPU without a period has no task
@@ -67,26 +68,27 @@ no_such_vcpu_is_told section number host is_host none other tells =
 -- what is said of the host's vCPU of this number is said of this one
 pub told_of_it : (section : List ℕ) (number : ℕ) (host : Host) (vcpu : Vcpu) → IsHostText section host
     → slice_get host.vcpus number ≡ Some vcpu → (other : List ℕ) → IsPeriodText section number other
-    → IsVcpuText vcpu host.tick_ns other
+    → IsVcpuText (vcpu_line number (codes "latency_ns") section) vcpu host.tick_ns other
 told_of_it section number host vcpu is_host at other tells =
     let same : tells.host ≡ host = one_host section tells.host host tells.is_host is_host in
     let found : slice_get host.vcpus number ≡ Some tells.vcpu =
     subst (λ (h : Host). slice_get h.vcpus number ≡ Some tells.vcpu) same tells.at in
     let both : Some tells.vcpu ≡ Some vcpu = sym found ∙ at in
     let alike : tells.vcpu ≡ vcpu = cc in
-    subst (λ (h : Host). IsVcpuText vcpu h.tick_ns other) same
-    (subst (λ (v : Vcpu). IsVcpuText v tells.host.tick_ns other) alike tells.tells)
+    let line = vcpu_line number (codes "latency_ns") section in
+    subst (λ (h : Host). IsVcpuText line vcpu h.tick_ns other) same
+    (subst (λ (v : Vcpu). IsVcpuText line v tells.host.tick_ns other) alike tells.tells)
 
 -- no text tells of a vCPU without a reservation
-pub no_reservation_is_told : (vcpu : Vcpu) (tick : ℕ) → vcpu.reservation ≡ None
-    → (other : List ℕ) → ¬ (IsVcpuText vcpu tick other)
-no_reservation_is_told vcpu tick none other tells =
+pub no_reservation_is_told : (line : Option (ℕ × List ℕ)) (vcpu : Vcpu) (tick : ℕ) → vcpu.reservation ≡ None
+    → (other : List ℕ) → ¬ (IsVcpuText line vcpu tick other)
+no_reservation_is_told line vcpu tick none other tells =
     let e : ◌≡◌ {A = Option Reservation} None (Some tells.reservation) = sym none ∙ tells.reserved in absurd cc
 
 -- no text says anything of a period of a vCPU whose reservation has one
-pub no_period_is_told : (vcpu : Vcpu) (tick : ℕ) (r : Reservation) → vcpu.reservation ≡ Some r
-    → HasPeriod r tick → (other : List ℕ) → ¬ (IsVcpuText vcpu tick other)
-no_period_is_told vcpu tick r reserved has other tells =
+pub no_period_is_told : (line : Option (ℕ × List ℕ)) (vcpu : Vcpu) (tick : ℕ) (r : Reservation) → vcpu.reservation ≡ Some r
+    → HasPeriod r tick → (other : List ℕ) → ¬ (IsVcpuText line vcpu tick other)
+no_period_is_told line vcpu tick r reserved has other tells =
     let both : Some tells.reservation ≡ Some r = sym tells.reserved ∙ reserved in
     let same : r ≡ tells.reservation = cc in
     tells.lacks (subst (λ (at : Reservation). HasPeriod at tick) same has)

@@ -1,4 +1,5 @@
 mod AgainLemmas
+mod KeyLinesLemmas
 mod KeysLemmas
 mod LeastLemmas
 mod TextsLemmas

@@ -1,5 +1,5 @@
 -- Calls that write an advice, or nothing.
-use Rattle.std.proofs.Common.{◌≡◌, ℕ, List, [], Option, Some, Result, Ok, Err, inl, inr, refl, slice_get}
+use Rattle.std.proofs.Common.{codes, ◌≡◌, ℕ, List, [], Option, Some, Result, Ok, Err, inl, inr, refl, slice_get}
 use Rattle.tab_core.specs.declared.host.Host.{Host}
 use Rattle.tab_core.specs.declared.periodic.Periodic.{Periodic}
 use Rattle.tab_core.specs.declared.vcpu.Vcpu.{Vcpu}
@@ -12,6 +12,7 @@ use Rattle.period_choice.specs.Tasks.{AreTasksOf}
 use Rattle.tab_words.specs.Commands.{IsCommand}
 use Rattle.tab_words.specs.declared.command.Command.TheVariants.{PlanStay}
 use Rattle.advice.specs.Advice.{IsPeriodText, IsVcpuText, TellsOfBudgets, TellsOfTasks, WhereThereIs, WhetherToStay, WritesSome}
+use Rattle.advice.specs.KeyLines.{vcpu_line}
 use Rattle.advice.specs.Faults.{of_sink}
 use Rattle.advice.specs.declared.fault.AdviceFault.{AdviceFault}
 use Rattle.advice.specs.declared.fault.AdviceFault.TheVariants as fault
@@ -74,7 +75,7 @@ tells_tasks section Told host tasks s t r is_host are_tasks wrote = writes_as (�
 -- what may tell of a vCPU may tell of the host's
 told_of_host : (section : List ℕ) (number : ℕ) (host : Host) (vcpu : Vcpu) (text : List ℕ)
     → IsHostText section host → slice_get host.vcpus number ≡ Some vcpu
-    → WhereThereIs (IsVcpuText vcpu host.tick_ns) text → WhereThereIs (IsPeriodText section number) text
+    → WhereThereIs (IsVcpuText (vcpu_line number (codes "latency_ns") section) vcpu host.tick_ns) text → WhereThereIs (IsPeriodText section number) text
 told_of_host section number host vcpu text is_host at (inl tells) =
     inl (record { host = host; vcpu = vcpu; is_host = is_host; at = at; tells = tells })
 told_of_host section number host vcpu text is_host at (inr none) =
@@ -83,7 +84,7 @@ told_of_host section number host vcpu text is_host at (inr none) =
 -- the call that writes of a vCPU writes of the host's
 pub tells_vcpu : (section : List ℕ) (number : ℕ) (host : Host) (vcpu : Vcpu) (s t : SinkView)
     (r : Result (Unit {0}) AdviceFault) → IsHostText section host → slice_get host.vcpus number ≡ Some vcpu
-    → WritesSome (WhereThereIs (IsVcpuText vcpu host.tick_ns)) s t r
+    → WritesSome (WhereThereIs (IsVcpuText (vcpu_line number (codes "latency_ns") section) vcpu host.tick_ns)) s t r
     → WritesSome (WhereThereIs (IsPeriodText section number)) s t r
 tells_vcpu section number host vcpu s t r is_host at wrote =
     writes_as (λ text told. told_of_host section number host vcpu text is_host at told) s t r wrote

@@ -25,6 +25,7 @@ use Rattle.table_form.specs.Tables.Plans.{PlanView}
 use Rattle.toml.specs.Data.{Members}
 use Rattle.vcpu_names.specs.Names.{names_of}
 use Rattle.advice.specs.Hosts.{many_text, toml_text}
+use Rattle.advice.specs.KeyLines.{vcpu_line}
 use Rattle.advice.specs.Keys.{other_text, rule_text, same_text, vcpu_key_text}
 use Rattle.advice.specs.Least.{IsLeastLatency, IsLeastShare}
 use Rattle.advice.specs.Lines.{section_at}
@@ -54,8 +55,8 @@ pub record IsTomlText (section text : List ℕ) : Type 0 where
 abbrev pub TellsOfDocument : List ℕ → (Members → List ℕ) → List ℕ → Type 0
 TellsOfDocument section told text = (members : Members) × IsDocument section members × (text ≡ told members)
 
--- the vCPU's reservation has no period, and the text tells of the nearest ones that have
-pub record IsVcpuText (vcpu : Vcpu) (tick_ns : ℕ) (text : List ℕ) : Type 0 where
+-- the vCPU's reservation has no period, and the text tells of the nearest ones that have, with this line
+pub record IsVcpuText (line : Option (ℕ × List ℕ)) (vcpu : Vcpu) (tick_ns : ℕ) (text : List ℕ) : Type 0 where
   pub reservation : Reservation
   pub latency : ℕ
   pub share : ℕ
@@ -63,7 +64,7 @@ pub record IsVcpuText (vcpu : Vcpu) (tick_ns : ℕ) (text : List ℕ) : Type 0 w
   pub lacks : ¬ (HasPeriod reservation tick_ns)
   pub least_latency : IsLeastLatency reservation tick_ns latency
   pub least_share : IsLeastShare reservation tick_ns share
-  pub is : text ≡ period_text vcpu.name reservation latency share
+  pub is : text ≡ period_text line vcpu.name reservation latency share
 
 -- the section is a host with this vCPU, of which the text tells so
 pub record IsPeriodText (section : List ℕ) (number : ℕ) (text : List ℕ) : Type 0 where
@@ -71,7 +72,7 @@ pub record IsPeriodText (section : List ℕ) (number : ℕ) (text : List ℕ) : 
   pub vcpu : Vcpu
   pub is_host : IsHostText section host
   pub at : slice_get host.vcpus number ≡ Some vcpu
-  pub tells : IsVcpuText vcpu host.tick_ns text
+  pub tells : IsVcpuText (vcpu_line number (codes "latency_ns") section) vcpu host.tick_ns text
 
 -- the host has these budgets, of which the text tells
 pub record TellsOfBudgets (Told : Host → List (Option Periodic) → List ℕ → Type 0) (host : Host) (text : List ℕ)
@@ -91,15 +92,15 @@ pub record TellsOfTasks (section : List ℕ) (Told : Host → List (Option Perio
 
 -- the text tells of the host's first unknown key
 abbrev pub IsOtherText : List ℕ → List ℕ → Type 0
-IsOtherText section text = TellsOfDocument section (λ members. other_text members) text
+IsOtherText section text = TellsOfDocument section (λ members. other_text section members) text
 
 -- the text tells of this vCPU and its key
 abbrev pub IsVcpuKeyText : List ℕ → ℕ → Key → List ℕ → Type 0
-IsVcpuKeyText section vcpu key text = TellsOfDocument section (λ members. vcpu_key_text vcpu key members) text
+IsVcpuKeyText section vcpu key text = TellsOfDocument section (λ members. vcpu_key_text section vcpu key members) text
 
 -- the text tells of this vCPU's name
 abbrev pub IsSameText : List ℕ → ℕ → List ℕ → Type 0
-IsSameText section vcpu text = TellsOfDocument section (λ members. same_text members vcpu) text
+IsSameText section vcpu text = TellsOfDocument section (λ members. same_text section members vcpu) text
 
 -- the text says what the vCPUs of a host with these budgets are due, and what all cores have
 abbrev pub TellsRoom : Host → List (Option Periodic) → List ℕ → Type 0
@@ -151,10 +152,10 @@ abbrev pub IsLineAdvice : List (List ℕ) → List ℕ → List ℕ → ℕ → 
 IsLineAdvice words section plan line text = WhetherToStay words
     (λ old. old ≡ old_line_text plan line) (WhereThereIs (IsPlanLineAdvice section plan line)) text
 
--- the advice on a key of the host: of a known one what it has to be, whatever the document has
+-- the advice on a key of the host: of a known one its line and what it has to be
 abbrev pub IsHostKeyAdvice : List ℕ → Key → List ℕ → Type 0
 IsHostKeyAdvice section Unknown text = WhereThereIs (IsOtherText section) text
-IsHostKeyAdvice section key text = text ≡ rule_text key
+IsHostKeyAdvice section key text = text ≡ rule_text section key
 
 -- the advice on a key of the host, or of the vCPU of a number
 abbrev pub IsKeyAdvice : List ℕ → Option ℕ → Key → List ℕ → Type 0
@@ -171,7 +172,7 @@ IsHostAdvice section host.NotToml text = WhereThereIs (IsTomlText section) text
 IsHostAdvice section (host.BadKey path) text = IsPathAdvice section path text
 IsHostAdvice section (host.OutOfRange path) text = IsPathAdvice section path text
 IsHostAdvice section (host.SameName vcpu) text = WhereThereIs (IsSameText section vcpu) text
-IsHostAdvice section (host.TooMany count) text = text ≡ many_text count
+IsHostAdvice section (host.TooMany count) text = text ≡ many_text section count
 IsHostAdvice section host.NoMemory text = text ≡ []
 
 -- the advice on what the line of the refusal tells whole

@@ -3,9 +3,11 @@ pub mod Faults
 pub mod Hosts
 pub mod Inside
 pub mod Kept
+pub mod KeyLines
 pub mod Keys
 pub mod Least
 pub mod Lines
+pub mod Mistaken
 pub mod Parts
 pub mod Periods
 pub mod Places

@@ -5,6 +5,7 @@ use Rattle.tab_words.specs.Lines.{lines_of}
 use Rattle.tab_words.specs.Words.{words_of}
 use Rattle.vcpu_names.specs.Names.{name_at}
 use Rattle.advice.specs.Lines.{line_at}
+use Rattle.advice.specs.Mistaken.{kind_of_plan_line, plan_kind_text}
 use Rattle.advice.specs.Parts.{quoted}
 use Rattle.advice.specs.declared.plan_lines.BadLine.{BadLine}
 use Rattle.advice.specs.declared.plan_lines.BadLine.TheVariants.{Truncated, Trailing, Unwanted}
@@ -50,11 +51,12 @@ bad_line_text Truncated number line unwanted = truncated_text number
 bad_line_text Trailing number line unwanted = trailing_text number line
 bad_line_text Unwanted number line unwanted = unwanted
 
--- the line of this number, from 1, that isn't wanted, in quotes
+-- the line of this number, from 1, that isn't wanted, in quotes, and what it may be
 abbrev pub found_line_text : ℕ → List ℕ → List ℕ
 found_line_text number line = codes "tableau: plan line "
     ++ (decimal number ++ (codes " is " ++ (quoted line
-    ++ codes "; was the host changed since the plan was made?\n")))
+    ++ (plan_kind_text (kind_of_plan_line line) (codes "; was the host changed since the plan was made?")
+    ++ codes "\n"))))
 
 -- the first line of a plan text
 abbrev pub wanted_head_text : ℕ → ℕ → List ℕ
@@ -103,8 +105,8 @@ old_wanted_text number = if nat_le number 1
 abbrev pub old_unwanted_text : ℕ → List ℕ → List ℕ
 old_unwanted_text number line = codes "tableau: plan line "
     ++ (decimal number ++ (codes " is " ++ (quoted line
-    ++ (codes ", and no line of a plan text there\ntableau: wanted "
-    ++ (old_wanted_text number ++ codes "\n")))))
+    ++ (plan_kind_text (kind_of_plan_line line) (codes ", and no line of a plan text there")
+    ++ (codes "\ntableau: wanted " ++ (old_wanted_text number ++ codes "\n"))))))
 
 -- the advice on an earlier plan's text whose line of this number, from 1, is wrong, whichever host it was made for
 abbrev pub old_line_text : List ℕ → ℕ → List ℕ

@@ -1,5 +1,5 @@
 -- The advice on vCPUs that find no room: what they are due together, what all cores have, and what to do.
-use Rattle.std.specs.Prelude.{ℕ, ◌+◌, ◌-◌, ◌/◌, nat_le, if◌then◌else◌, List, ◌++◌, codes, decimal, Option, Some, None, sum_by}
+use Rattle.std.specs.Prelude.{ℕ, Bool, ◌+◌, ◌-◌, ◌*◌, ◌/◌, ◌&&◌, nat_le, if◌then◌else◌, List, ◌++◌, codes, decimal, Option, Some, None, sum_by}
 use Rattle.tab_core.specs.declared.TheConstants.{MAX_CORES, ROUND}
 use Rattle.tab_core.specs.declared.periodic.Periodic.{Periodic}
 use Rattle.reservation.specs.Cost.{demand}
@@ -17,10 +17,23 @@ due_of_tasks tasks = sum_by due_of_task tasks
 abbrev pub cores_for : ℕ → ℕ
 cores_for ticks = (ticks + (ROUND - 1)) / ROUND
 
+-- the percent of the ticks of all cores that the vCPUs are due, rounded up
+abbrev pub percent_of : ℕ → ℕ → ℕ
+percent_of due room = (due * 100 + (room - 1)) / room
+
+-- the ticks are no more than any host's, so that their percent is said
+abbrev pub has_percent : ℕ → ℕ → Bool
+has_percent due room = nat_le 1 room && (nat_le room 1000000000 && nat_le due 1000000000)
+
+-- the percent that the vCPUs ask for, where it is said
+abbrev pub percent_text : ℕ → ℕ → List ℕ
+percent_text due room = if has_percent due room
+    then codes ": that is " ++ (decimal (percent_of due room) ++ codes " percent\n") else codes "\n"
+
 -- how many ticks of a round the vCPUs ask for together, and how many all cores have
 abbrev pub ask_text : ℕ → ℕ → List ℕ
-ask_text due room = codes "tableau: the vCPUs ask "
-    ++ (decimal due ++ (codes " ticks of a round, and all cores have " ++ (decimal room ++ codes "\n")))
+ask_text due room = (codes "tableau: the vCPUs ask "
+    ++ (decimal due ++ (codes " ticks of a round, and all cores have " ++ decimal room))) ++ percent_text due room
 
 -- the remedy where the vCPUs need so many cores, and a host may have them
 abbrev pub more_cores_text : ℕ → List ℕ

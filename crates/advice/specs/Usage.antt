@@ -1,5 +1,5 @@
 -- The advice on words that are no command: what may be at the place of the fault, and what to type.
-use Rattle.std.specs.Prelude.{ℕ, Bool, false, true, ◌==◌, ◌&&◌, ◌||◌, nat_le, if◌then◌else◌, List, [], ◌∷◌, ◌++◌, bytes_eq, codes, decimal, flat_map, Option, Some, None, slice_get, slice_index, take}
+use Rattle.std.specs.Prelude.{ℕ, Bool, false, true, ◌==◌, ◌&&◌, ◌||◌, nat_le, not, if◌then◌else◌, List, [], ◌∷◌, ◌++◌, bytes_eq, codes, decimal, flat_map, Option, Some, None, slice_get, slice_index, take}
 use Rattle.std.specs.List.{list_all, list_any}
 use Rattle.advice.specs.Parts.{quoted}
 use Rattle.advice.specs.declared.usage.Wanted.{Wanted}
@@ -108,11 +108,19 @@ abbrev pub is_begun : List (List ℕ) → Bool
 is_begun [] = false
 is_begun (word ∷ words) = true
 
+-- a digit or a point
+abbrev pub is_figure : ℕ → Bool
+is_figure byte = (nat_le 48 byte && nat_le byte 57) || (byte == 46)
+
+-- the word has digits and points alone, so it is meant as a number and not as a file's name
+abbrev pub are_figures : List ℕ → Bool
+are_figures word = list_all is_figure word
+
 -- what to type in place of a word after others
 abbrev pub hint_text : List (List ℕ) → List ℕ → List ℕ
 hint_text front word = if is_begun front
     then (if asks_help word then codes "tableau: for help type: tableau --help\n"
-    else (if read_behind front then shell_text front word else []))
+    else (if read_behind front && not (are_figures word) then shell_text front word else []))
     else []
 
 -- the advice on a word at this place that is wrong after the words before it

@@ -1,11 +1,14 @@
-ghost use Rattle.std.specs.Prelude.{◌≡◌, option_map};
+ghost use Rattle.std.specs.Prelude.{◌≡◌, ℕ, List, option_map};
+ghost use Rattle.std.specs.Option.{option_or};
 ghost use Rattle.tab_io.specs.Sinks.{Writes};
 ghost use Rattle.toml.specs.Data.{get_item, get_member};
 ghost use Rattle.toml.specs.View.{items_view, table_view, view};
 ghost use Rattle.host_doc.specs.OtherKeys.{is_among};
 ghost use Rattle.advice.specs.Parts.{part_text, quote_of};
-ghost use Rattle.advice.specs.Keys.{first_other, has_second_format, host_keys, host_rule, is_two, member_at, member_name, other_in_vcpu, other_text, rule_text, same_text, space_of, vcpu_key_text, vcpu_rule};
+ghost use Rattle.advice.specs.KeyLines.{line_part};
+ghost use Rattle.advice.specs.Keys.{first_other, has_second_format, host_keys, host_rule, is_missing, is_two, line_word, member_at, member_name, other_in_vcpu, other_line, other_text, other_text_of, rule_text, rule_text_of, rule_words, same_text, space_of, stray_text, vcpu_key_text, vcpu_rule, vcpu_text_of};
 
+use crate::key_lines::{any_line, host_line, line_part, vcpu_line};
 use crate::part::{Part, put_parts};
 use host_doc::Key;
 use tab_io::{Sink, WriteFault};
@@ -42,66 +45,185 @@ const VCPU_KEYS: [Key; 6] = [
 ];
 
 // Writes the advice on a known key of a host.
-pub(crate) fn put_rule<K: Sink>(sink: &mut K, key: Key) -> Result<(), WriteFault>
-    ensures { Writes (K.state sink.old) (K.state sink.new) (rule_text key) result }
+pub(crate) fn put_rule<K: Sink>(sink: &mut K, section: &[u8], key: Key) -> Result<(), WriteFault>
+    ensures { Writes (K.state sink.old) (K.state sink.new) (rule_text section.now key) result }
+{
+    let word = key.word().as_bytes();
+    put_rule_of(sink, host_line(section, word), any_line(section, word), key)
+}
+
+// Writes that advice, if the key has this line in the host's table and that first line in any table.
+fn put_rule_of<'a, K: Sink>(
+    sink: &mut K,
+    own: Option<(u32, &'a [u8])>,
+    any: Option<(u32, &'a [u8])>,
+    key: Key,
+) -> Result<(), WriteFault>
+    ensures { Writes (K.state sink.old) (K.state sink.new)
+        (rule_text_of (option_map (λ line. (line.0, line.1.now)) own.entry)
+        (option_map (λ line. (line.0, line.1.now)) any.entry) key) result }
 {
     put_parts(
         sink,
         &[
-            Part::Text(b"tableau: "),
-            Part::Text(host_rule(key)),
+            Part::Text(b"tableau: host"),
+            line_part(either(own, any)),
+            Part::Text(b": "),
+            Part::Text(rule_words(own, any, key)),
             Part::Text(b"\n"),
         ],
     )
 }
 
+// The first line, or else the second one.
+fn either<'a>(own: Option<(u32, &'a [u8])>, any: Option<(u32, &'a [u8])>) -> Option<(u32, &'a [u8])>
+    ensures { option_map (λ line. (line.0, line.1.now)) result
+        ≡ option_or (option_map {U = ℕ × List ℕ} (λ line. (line.0, line.1.now)) own.entry)
+        (option_map {U = ℕ × List ℕ} (λ line. (line.0, line.1.now)) any.entry) }
+{
+    match own {
+        Some(line) => Some(line),
+        None => any,
+    }
+}
+
+// What the key has to be, or that it is misplaced.
+fn rule_words(own: Option<(u32, &[u8])>, any: Option<(u32, &[u8])>, key: Key) -> &'static [u8]
+    ensures { result.now ≡ rule_words (option_map (λ line. (line.0, line.1.now)) own.entry)
+        (option_map (λ line. (line.0, line.1.now)) any.entry) key }
+{
+    match (own, any) {
+        (None, Some(_)) =>
+            b"after a line [[vcpu]] a key is that vCPU's;\ntableau: put the keys of the host above the first [[vcpu]]",
+        _ => host_rule(key),
+    }
+}
+
 // Writes the advice on a document of this table, which has an unknown key of a host.
-pub(crate) fn put_other_key<K: Sink>(sink: &mut K, table: &Table) -> Result<(), WriteFault>
-    ensures { Writes (K.state sink.old) (K.state sink.new) (other_text (table_view table.now)) result }
+pub(crate) fn put_other_key<K: Sink>(
+    sink: &mut K,
+    section: &[u8],
+    table: &Table,
+) -> Result<(), WriteFault>
+    ensures { Writes (K.state sink.old) (K.state sink.new) (other_text section.now (table_view table.now)) result }
+{
+    put_other_of(sink, section, other_in_host(table))
+}
+
+// Writes the advice on an unknown key, which may be this one.
+fn put_other_of<'a, K: Sink>(
+    sink: &mut K,
+    section: &'a [u8],
+    other: Option<&'a str>,
+) -> Result<(), WriteFault>
+    ensures { Writes (K.state sink.old) (K.state sink.new)
+        (other_text_of (option_map (λ text. text.now) other.entry) section.now) result }
 {
     put_parts(
         sink,
         &[
-            Part::Text(b"tableau: "),
-            other_in_host(table),
+            Part::Text(b"tableau: host"),
+            line_part(other_line(section, other)),
+            Part::Text(b": "),
+            part_of(other),
             Part::Text(host_rule(Key::Unknown)),
             Part::Text(b"\n"),
         ],
     )
 }
 
+// The line that gives this key of the host a value, if there is a key.
+fn other_line<'a>(section: &'a [u8], other: Option<&str>) -> Option<(u32, &'a [u8])>
+    ensures { option_map (λ line. (line.0, line.1.now)) result
+        ≡ other_line (option_map (λ text. text.now) other.entry) section.now }
+{
+    match other {
+        None => None,
+        Some(word) => host_line(section, word.as_bytes()),
+    }
+}
+
 // Writes the advice on a key of the vCPU of this number in a document of this table.
 pub(crate) fn put_vcpu_key<K: Sink>(
     sink: &mut K,
+    section: &[u8],
     table: &Table,
     number: u32,
     key: Key,
 ) -> Result<(), WriteFault>
     ensures { Writes (K.state sink.old) (K.state sink.new)
-        (vcpu_key_text number key (table_view table.now)) result }
+        (vcpu_key_text section.now number key (table_view table.now)) result }
+{
+    let name = name_at(table, number);
+    let other = other_in_vcpu(key, member_at(table, number));
+    put_vcpu_of(sink, section, number, key, name, other)
+}
+
+// Writes that advice on a vCPU, whose name and unknown key may be these.
+fn put_vcpu_of<'a, K: Sink>(
+    sink: &mut K,
+    section: &'a [u8],
+    number: u32,
+    key: Key,
+    name: Option<&'a str>,
+    other: Option<&'a str>,
+) -> Result<(), WriteFault>
+    ensures { Writes (K.state sink.old) (K.state sink.new)
+        (vcpu_text_of number key (option_map (λ text. text.now) name.entry)
+        (option_map (λ text. text.now) other.entry) section.now) result }
 {
     put_parts(
         sink,
         &[
             Part::Text(b"tableau: vcpu "),
             Part::Number(number),
-            space_of(table, number),
-            label_of(table, number),
+            space_of(name),
+            part_of(name),
+            line_part(vcpu_line(section, number, line_word(key, other))),
             Part::Text(b": "),
-            other_in_vcpu(table, number, key),
+            part_of(other),
+            Part::Text(stray_words(key, other)),
             Part::Text(vcpu_rule(key)),
             Part::Text(b"\n"),
         ],
     )
 }
 
+// The word by which the line of a fault is found.
+fn line_word<'a>(key: Key, other: Option<&'a str>) -> &'a [u8]
+    ensures { result.now ≡ line_word key (option_map (λ text. text.now) other.entry) }
+{
+    match other {
+        None => key.word().as_bytes(),
+        Some(other) => other.as_bytes(),
+    }
+}
+
+// What an unknown key of a vCPU is.
+fn stray_words(key: Key, other: Option<&str>) -> &'static [u8]
+    ensures { result.now ≡ stray_text key (option_map (λ text. text.now) other.entry) }
+{
+    let Some(other) = other else {
+        return b"";
+    };
+    if key != Key::Unknown {
+        b" is no key of a vCPU; "
+    } else if is_among(&SECOND_KEYS, other) {
+        b" is a key of the host: put it above the first [[vcpu]]; it"
+    } else {
+        b""
+    }
+}
+
 // Writes the advice on a vCPU that has the name of an earlier one.
-pub(crate) fn put_same_name<K: Sink>(
+pub(crate) fn put_same_name<'a, K: Sink>(
     sink: &mut K,
-    table: &Table,
+    section: &'a [u8],
+    table: &'a Table,
     number: u32,
 ) -> Result<(), WriteFault>
-    ensures { Writes (K.state sink.old) (K.state sink.new) (same_text (table_view table.now) number) result }
+    ensures { Writes (K.state sink.old) (K.state sink.new)
+        (same_text section.now (table_view table.now) number) result }
 {
     put_parts(
         sink,
@@ -109,29 +231,24 @@ pub(crate) fn put_same_name<K: Sink>(
             Part::Text(b"tableau: vcpu "),
             Part::Number(number),
             Part::Text(b" "),
-            label_of(table, number),
+            part_of(name_at(table, number)),
+            line_part(vcpu_line(section, number, b"name")),
             Part::Text(b": an earlier one has this name; rename one of them\n"),
         ],
     )
 }
 
-// The space before the name of a vCPU, or nothing where it has none.
-fn space_of(table: &Table, number: u32) -> Part<'static>
-    ensures { part_text result ≡ space_of (member_name number (table_view table.now)) }
+// The space before a name, or nothing where there is none.
+fn space_of(name: Option<&str>) -> Part<'static>
+    ensures { part_text result ≡ space_of (option_map (λ text. text.now) name.entry) }
 {
-    match name_at(table, number) {
+    match name {
         Some(_) => Part::Text(b" "),
         None => Part::Text(b""),
     }
 }
 
-// The name of a vCPU as the document has it, or nothing where it has none.
-fn label_of(table: &Table, number: u32) -> Part<'_>
-    ensures { part_text result ≡ quote_of (member_name number (table_view table.now)) }
-{
-    part_of(name_at(table, number))
-}
-
+// The name of a vCPU as the document has it, if it has one.
 fn name_at(table: &Table, number: u32) -> Option<&str>
     ensures { option_map (λ name. name.now) result ≡ member_name number (table_view table.now) }
 {
@@ -175,14 +292,14 @@ fn item_at(values: &[Value], number: u32) -> Option<&Value>
 }
 
 // The first key of a host that is none of the keys of its format.
-fn other_in_host(table: &Table) -> Part<'_>
-    ensures { part_text result
-        ≡ quote_of (first_other (host_keys (table_view table.now)) (table_view table.now)) }
+fn other_in_host(table: &Table) -> Option<&str>
+    ensures { option_map (λ word. word.now) result
+        ≡ first_other (host_keys (table_view table.now)) (table_view table.now) }
 {
     if is_second(table) {
-        part_of(first_other(table, &SECOND_KEYS))
+        first_other(table, &SECOND_KEYS)
     } else {
-        part_of(first_other(table, &FIRST_KEYS))
+        first_other(table, &FIRST_KEYS)
     }
 }
 
@@ -205,17 +322,25 @@ fn is_two(number: Option<i64>) -> bool
     }
 }
 
-// The first key of a vCPU that is none of its keys, where the fault is one.
-fn other_in_vcpu(table: &Table, number: u32, key: Key) -> Part<'_>
-    ensures { part_text result ≡ quote_of (other_in_vcpu key (member_at number (table_view table.now))) }
+// The first key of a vCPU that is none of its keys, if the fault is one, or if the key at fault isn't there.
+fn other_in_vcpu<'a>(key: Key, member: Option<&'a Table>) -> Option<&'a str>
+    ensures { option_map (λ word. word.now) result
+        ≡ other_in_vcpu key (option_map (λ member. table_view member.now) member.entry) }
 {
-    if key != Key::Unknown {
-        return Part::Text(b"");
+    let Some(member) = member else {
+        return None;
+    };
+    if key == Key::Unknown || is_missing(value_at(member, key.word())) {
+        first_other(member, &VCPU_KEYS)
+    } else {
+        None
     }
-    match member_at(table, number) {
-        Some(member) => part_of(first_other(member, &VCPU_KEYS)),
-        None => Part::Text(b""),
-    }
+}
+
+fn is_missing(value: Option<&Value>) -> bool
+    ensures { result ≡ is_missing (option_map (λ value. view value.now) value.entry) }
+{
+    value.is_none()
 }
 
 fn part_of(word: Option<&str>) -> Part<'_>

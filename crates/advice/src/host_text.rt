@@ -3,7 +3,9 @@ ghost use Rattle.tab_io.specs.Sinks.{Writes};
 ghost use Rattle.advice.specs.Places.{place_after, place_after_all};
 ghost use Rattle.advice.specs.Hosts.{many_text, toml_text, toml_text_at};
 
+use crate::key_lines::{line_part, vcpu_start};
 use crate::line::line_at;
+use crate::mistaken::{kind_of_text, kind_text};
 use crate::part::{Part, put_parts};
 use tab_io::{Sink, WriteFault};
 
@@ -36,6 +38,8 @@ fn put_toml_at<'a, K: Sink>(
 ) -> Result<(), WriteFault>
     ensures { Writes (K.state sink.old) (K.state sink.new) (toml_text_at text.now place message.now) result }
 {
+    let line = line_at(text, place.line);
+    let kind = kind_of_text(text, line, message);
     put_parts(
         sink,
         &[
@@ -46,10 +50,10 @@ fn put_toml_at<'a, K: Sink>(
             Part::Text(b": "),
             Part::Text(message),
             Part::Text(b"\ntableau: "),
-            Part::Quoted(line_at(text, place.line)),
-            Part::Text(
-                b"; texts are in quotes, and a number has neither % nor unit:\ntableau: share_ppm 200000 is 20 %, latency_ns 20000000 is 20 ms\n",
-            ),
+            Part::Quoted(line),
+            Part::Text(b"; "),
+            Part::Text(kind_text(kind)),
+            Part::Text(b"\n"),
         ],
     )
 }
@@ -98,13 +102,21 @@ fn place_after(place: Place, byte: u8) -> Place
 }
 
 // Writes the advice on a host of so many vCPUs.
-pub(crate) fn put_too_many<K: Sink>(sink: &mut K, count: u32) -> Result<(), WriteFault>
-    ensures { Writes (K.state sink.old) (K.state sink.new) (many_text count) result }
+pub(crate) fn put_too_many<K: Sink>(
+    sink: &mut K,
+    section: &[u8],
+    count: u32,
+) -> Result<(), WriteFault>
+    ensures { Writes (K.state sink.old) (K.state sink.new) (many_text section.now count) result }
 {
     put_parts(
         sink,
         &[
-            Part::Text(b"tableau: a host has at most 256 vCPUs; leave out "),
+            Part::Text(b"tableau: host"),
+            line_part(vcpu_start(section, 256)),
+            Part::Text(b": a host has at most 256 vCPUs, and this one "),
+            Part::Number(count),
+            Part::Text(b"; leave out "),
             Part::Number(count.saturating_sub(256)),
             Part::Text(b"\n"),
         ],

@@ -1,8 +1,9 @@
-ghost use Rattle.std.specs.Prelude.{◌*◌, ◌≤◌};
+ghost use Rattle.std.specs.Prelude.{◌*◌, ◌≡◌, ◌≤◌, codes, option_map};
 ghost use Rattle.tab_core.specs.declared.TheConstants.{MAX_TICK_NS, MIN_TICK_NS, ROUND};
 ghost use Rattle.tab_io.specs.Sinks.{Writes};
 ghost use Rattle.period_choice.specs.Tasks.{AreTasksOf};
 ghost use Rattle.advice.specs.Advice.{IsHostAdvice, IsHostKeyAdvice, IsOtherText, IsPathAdvice, IsPeriodText, IsPlanLineAdvice, IsRoomText, IsSameText, IsStayText, IsTomlText, IsVcpuKeyText, IsVcpuText, TellsOfPlan, WhereThereIs, WritesSome};
+ghost use Rattle.advice.specs.KeyLines.{vcpu_line};
 ghost use Rattle.advice.specs.Periods.{period_text};
 ghost use Rattle.advice.specs.Room.{due_of_tasks, room_text};
 
@@ -10,6 +11,7 @@ use crate::again::{has_plan, host_again, table_again, tasks_again};
 use crate::fault::{AdviceFault, of_sink};
 use crate::host_keys::{put_other_key, put_rule, put_same_name, put_vcpu_key};
 use crate::host_text::{put_toml_fault, put_too_many};
+use crate::key_lines::{line_part, vcpu_line};
 use crate::least::{least_latency, least_share};
 use crate::part::{Part, put_parts};
 use crate::plan_lines::put_plan_line;
@@ -36,7 +38,7 @@ pub(crate) fn put_host<K: Sink>(
         HostFault::BadKey { path } => put_bad_key(alloc, sink, section, path),
         HostFault::OutOfRange { path } => put_bad_key(alloc, sink, section, path),
         HostFault::SameName { vcpu } => put_same(alloc, sink, section, *vcpu),
-        HostFault::TooMany { count } => of_sink(put_too_many(sink, *count)),
+        HostFault::TooMany { count } => of_sink(put_too_many(sink, section, *count)),
         HostFault::NoMemory => Ok(()),
     }
 }
@@ -68,7 +70,7 @@ fn put_host_key<K: Sink>(
     if key == Key::Unknown {
         put_other(alloc, sink, section)
     } else {
-        of_sink(put_rule(sink, key))
+        of_sink(put_rule(sink, section, key))
     }
 }
 
@@ -77,7 +79,7 @@ fn put_other<K: Sink>(alloc: Global, sink: &mut K, section: &[u8]) -> Result<(),
     ensures { WritesSome (WhereThereIs (IsOtherText section.now)) (K.state sink.old) (K.state sink.new) result }
 {
     match table_again(alloc, section)? {
-        Some(table) => of_sink(put_other_key(sink, &table)),
+        Some(table) => of_sink(put_other_key(sink, section, &table)),
         None => Ok(()),
     }
 }
@@ -93,7 +95,7 @@ fn put_key_of_vcpu<K: Sink>(
     ensures { WritesSome (WhereThereIs (IsVcpuKeyText section.now vcpu key)) (K.state sink.old) (K.state sink.new) result }
 {
     match table_again(alloc, section)? {
-        Some(table) => of_sink(put_vcpu_key(sink, &table, vcpu, key)),
+        Some(table) => of_sink(put_vcpu_key(sink, section, &table, vcpu, key)),
         None => Ok(()),
     }
 }
@@ -108,7 +110,7 @@ fn put_same<K: Sink>(
     ensures { WritesSome (WhereThereIs (IsSameText section.now vcpu)) (K.state sink.old) (K.state sink.new) result }
 {
     match table_again(alloc, section)? {
-        Some(table) => of_sink(put_same_name(sink, &table, vcpu)),
+        Some(table) => of_sink(put_same_name(sink, section, &table, vcpu)),
         None => Ok(()),
     }
 }
@@ -149,14 +151,29 @@ pub(crate) fn put_no_period<K: Sink>(
     let Some(found) = host.vcpus.items().get(vcpu.index()) else {
         return Ok(());
     };
-    put_vcpu_period(sink, found, host.tick_ns)
+    let line = latency_line(section, *vcpu);
+    put_vcpu_period(sink, line, found, host.tick_ns)
 }
 
-// Writes the advice on this vCPU, with a tick of so many nanoseconds.
-fn put_vcpu_period<K: Sink>(sink: &mut K, vcpu: &Vcpu, tick_ns: u32) -> Result<(), AdviceFault>
+// The line of a host that gives this vCPU its latency.
+fn latency_line(section: &[u8], vcpu: VcpuNo) -> Option<(u32, &[u8])>
+    ensures { option_map (λ line. (line.0, line.1.now)) result
+        ≡ vcpu_line vcpu (codes "latency_ns") section.now }
+{
+    vcpu_line(section, vcpu.0, b"latency_ns")
+}
+
+// Writes the advice on this vCPU, which this line tells of, with a tick of so many nanoseconds.
+fn put_vcpu_period<'a, K: Sink>(
+    sink: &mut K,
+    line: Option<(u32, &'a [u8])>,
+    vcpu: &'a Vcpu,
+    tick_ns: u32,
+) -> Result<(), AdviceFault>
     requires at_least { MIN_TICK_NS ≤ tick_ns }
     requires at_most { tick_ns ≤ MAX_TICK_NS }
-    ensures { WritesSome (WhereThereIs (IsVcpuText vcpu.now tick_ns)) (K.state sink.old) (K.state sink.new) result }
+    ensures { WritesSome (WhereThereIs (IsVcpuText (option_map (λ line. (line.0, line.1.now)) line.entry) vcpu.now tick_ns))
+        (K.state sink.old) (K.state sink.new) result }
 {
     let Some(reservation) = vcpu.reservation else {
         return Ok(());
@@ -167,23 +184,27 @@ fn put_vcpu_period<K: Sink>(sink: &mut K, vcpu: &Vcpu, tick_ns: u32) -> Result<(
     let Some(share) = least_share(&reservation, tick_ns) else {
         return Ok(());
     };
-    of_sink(put_period(sink, vcpu.name.bytes(), &reservation, latency, share))
+    of_sink(put_period(sink, line, vcpu.name.bytes(), &reservation, latency, share))
 }
 
-fn put_period<K: Sink>(
+fn put_period<'a, K: Sink>(
     sink: &mut K,
-    name: &[u8],
+    line: Option<(u32, &'a [u8])>,
+    name: &'a [u8],
     reservation: &Reservation,
     latency: u64,
     share: u32,
 ) -> Result<(), WriteFault>
     ensures { Writes (K.state sink.old) (K.state sink.new)
-        (period_text name.now reservation.now latency share) result }
+        (period_text (option_map (λ line. (line.0, line.1.now)) line.entry) name.now reservation.now latency share)
+        result }
 {
     put_parts(
         sink,
         &[
-            Part::Text(b"tableau: "),
+            Part::Text(b"tableau: host"),
+            line_part(line),
+            Part::Text(b": "),
             Part::Text(name),
             Part::Text(b" asks share_ppm "),
             Part::Number(reservation.share_ppm),

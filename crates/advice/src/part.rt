@@ -1,9 +1,9 @@
 ghost use Rattle.std.specs.Prelude.{◌≡◌, ◌≤◌, flat_map, length, take};
 ghost use Rattle.tab_io.specs.Sinks.{Writes};
-ghost use Rattle.advice.specs.Parts.{end_of_quote, part_text, quoted, rest_of_quote, shown_byte};
+ghost use Rattle.advice.specs.Parts.{end_of_quote, line_text, part_text, quoted, rest_of_quote, shown_byte};
 
 use tab_io::{Sink, WriteFault, write_all};
-use tab_words::put_number;
+use tab_words::{put_number, put_numbered};
 
 // A part of an advice.
 #[derive(Clone, Copy)]
@@ -16,6 +16,8 @@ pub(crate) enum Part<'a> {
     Wide(u64),
     // A word or a line of somebody else.
     Quoted(&'a [u8]),
+    // The number of a line, from 1, and that line.
+    Line(u32, &'a [u8]),
 }
 
 // How many bytes of a word or a line are quoted.
@@ -39,7 +41,17 @@ fn put_part<K: Sink>(sink: &mut K, part: &Part<'_>) -> Result<(), WriteFault>
         Part::Number(n) => put_number(sink, u64::from(*n)),
         Part::Wide(n) => put_number(sink, *n),
         Part::Quoted(bytes) => put_quoted(sink, bytes),
+        Part::Line(number, line) => put_line(sink, *number, line),
     }
+}
+
+fn put_line<K: Sink>(sink: &mut K, number: u32, line: &[u8]) -> Result<(), WriteFault>
+    ensures { Writes (K.state sink.old) (K.state sink.new) (line_text number line.now) result }
+{
+    if let Err(fault) = put_numbered(sink, b", line ", number, b", ") {
+        return Err(fault);
+    }
+    put_quoted(sink, line)
 }
 
 fn put_quoted<K: Sink>(sink: &mut K, bytes: &[u8]) -> Result<(), WriteFault>

@@ -7,6 +7,7 @@ ghost use Rattle.advice.specs.Lines.{line_at};
 ghost use Rattle.advice.specs.PlanLines.{admitted_from, are_end, bad_after, bad_line, behind_head, found_line_text, old_line_text, old_unwanted_text, old_wanted_text, plan_line_text, shape_text, short_text, trailing_text, truncated_text, twice_text, unwanted_text, wanted_head_text, wanted_line_text, wanted_table_text, wanted_vcpu_text};
 
 use crate::line::{first_of, lines_after};
+use crate::mistaken::{kind_of_plan_line, plan_kind_text};
 use crate::part::{Part, put_parts};
 use tab_core::{CoreNo, Host, Periodic, Tasks, Vcpu, VcpuNo};
 use tab_io::{Sink, WriteFault, write_all};
@@ -134,7 +135,11 @@ fn put_found<K: Sink>(sink: &mut K, number: u32, line: &[u8]) -> Result<(), Writ
             Part::Number(number),
             Part::Text(b" is "),
             Part::Quoted(line),
-            Part::Text(b"; was the host changed since the plan was made?\n"),
+            Part::Text(plan_kind_text(
+                kind_of_plan_line(line),
+                b"; was the host changed since the plan was made?",
+            )),
+            Part::Text(b"\n"),
         ],
     )
 }
@@ -268,7 +273,11 @@ fn put_old_unwanted<K: Sink>(sink: &mut K, number: u32, line: &[u8]) -> Result<(
             Part::Number(number),
             Part::Text(b" is "),
             Part::Quoted(line),
-            Part::Text(b", and no line of a plan text there\ntableau: wanted "),
+            Part::Text(plan_kind_text(
+                kind_of_plan_line(line),
+                b", and no line of a plan text there",
+            )),
+            Part::Text(b"\ntableau: wanted "),
             Part::Text(old_wanted_text(number)),
             Part::Text(b"\n"),
         ],

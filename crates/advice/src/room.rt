@@ -1,7 +1,7 @@
-ghost use Rattle.std.specs.Prelude.{◌≡◌, ◌<◌, ◌≤◌};
+ghost use Rattle.std.specs.Prelude.{◌≡◌, ◌<◌, ◌≤◌, ◌++◌, codes, decimal};
 ghost use Rattle.tab_core.specs.declared.TheConstants.{ROUND};
 ghost use Rattle.tab_io.specs.Sinks.{Writes};
-ghost use Rattle.advice.specs.Room.{ask_text, beyond_text, cores_text, due_of_task, due_of_tasks, more_cores_text, none_text, planned_text, remedy_text, room_text, unplanned_text};
+ghost use Rattle.advice.specs.Room.{ask_text, beyond_text, cores_text, due_of_task, due_of_tasks, more_cores_text, none_text, percent_text, planned_text, remedy_text, room_text, unplanned_text};
 
 use crate::part::{Part, put_parts};
 use reservation::demand_of;
@@ -18,8 +18,20 @@ pub(crate) fn put_room<K: Sink>(sink: &mut K, demand: u64, room: u64) -> Result<
     put_remedy(sink, demand, room)
 }
 
+// Writes the ticks that the vCPUs ask for and that all cores have.
 fn put_asked<K: Sink>(sink: &mut K, demand: u64, room: u64) -> Result<(), WriteFault>
     ensures { Writes (K.state sink.old) (K.state sink.new) (ask_text demand room) result }
+{
+    if let Err(fault) = put_ticks(sink, demand, room) {
+        return Err(fault);
+    }
+    put_percent(sink, demand, room)
+}
+
+fn put_ticks<K: Sink>(sink: &mut K, demand: u64, room: u64) -> Result<(), WriteFault>
+    ensures { Writes (K.state sink.old) (K.state sink.new)
+        (codes "tableau: the vCPUs ask "
+        ++ (decimal demand ++ (codes " ticks of a round, and all cores have " ++ decimal room))) result }
 {
     put_parts(
         sink,
@@ -28,7 +40,30 @@ fn put_asked<K: Sink>(sink: &mut K, demand: u64, room: u64) -> Result<(), WriteF
             Part::Wide(demand),
             Part::Text(b" ticks of a round, and all cores have "),
             Part::Wide(room),
-            Part::Text(b"\n"),
+        ],
+    )
+}
+
+fn put_percent<K: Sink>(sink: &mut K, demand: u64, room: u64) -> Result<(), WriteFault>
+    ensures { Writes (K.state sink.old) (K.state sink.new) (percent_text demand room) result }
+{
+    if 1 <= room && (room <= 1_000_000_000 && demand <= 1_000_000_000) {
+        put_percent_of(sink, (demand * 100 + (room - 1)) / room)
+    } else {
+        write_all(sink, b"\n")
+    }
+}
+
+fn put_percent_of<K: Sink>(sink: &mut K, percent: u64) -> Result<(), WriteFault>
+    ensures { Writes (K.state sink.old) (K.state sink.new)
+        (codes ": that is " ++ (decimal percent ++ codes " percent\n")) result }
+{
+    put_parts(
+        sink,
+        &[
+            Part::Text(b": that is "),
+            Part::Wide(percent),
+            Part::Text(b" percent\n"),
         ],
     )
 }

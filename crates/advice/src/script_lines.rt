@@ -1,7 +1,10 @@
+ghost use Rattle.std.specs.Prelude.{◌≡◌};
 ghost use Rattle.tab_io.specs.Sinks.{Writes};
-ghost use Rattle.advice.specs.Scripts.{script_fault_text, script_line_text};
+ghost use Rattle.advice.specs.Lines.{line_at};
+ghost use Rattle.advice.specs.Scripts.{bad_line_words, script_fault_text, script_line_text};
 
 use crate::line::line_at;
+use crate::mistaken::{kind_of_script_line, script_kind_text};
 use crate::part::{Part, put_parts};
 use script_doc::ScriptFault;
 use tab_io::{Sink, WriteFault};
@@ -16,12 +19,7 @@ pub(crate) fn put_script<K: Sink>(
     ensures { Writes (K.state sink.old) (K.state sink.new) (script_fault_text script.now fault.now) result }
 {
     match fault {
-        ScriptFault::BadLine { line } => put_script_line(
-            sink,
-            script,
-            *line,
-            b"wanted is TICK wake NAME, TICK block NAME, TICK burst NAME WORK, or TICK change and edits,\ntableau: each set NAME PPM NS or leave NAME; a tick is a whole number (5 ms are 4995), a comment\ntableau: has a line of its own, and lines end in LF alone",
-        ),
+        ScriptFault::BadLine { line } => put_bad_line(sink, script, *line),
         ScriptFault::UnknownName { line } => put_script_line(
             sink,
             script,
@@ -76,5 +74,28 @@ fn put_script_line<'a, K: Sink>(
             Part::Text(what),
             Part::Text(b"\n"),
         ],
+    )
+}
+
+// Writes the line of this number, which is none of a script.
+fn put_bad_line<K: Sink>(sink: &mut K, script: &[u8], number: u32) -> Result<(), WriteFault>
+    ensures { Writes (K.state sink.old) (K.state sink.new)
+        (script_line_text script.now number (bad_line_words (line_at number script.now))) result }
+{
+    put_script_line(
+        sink,
+        script,
+        number,
+        bad_line_words(line_at(script, number)),
+    )
+}
+
+// What is wrong with a line that is none of a script.
+fn bad_line_words(line: &[u8]) -> &[u8]
+    ensures { result.now ≡ bad_line_words line.now }
+{
+    script_kind_text(
+        kind_of_script_line(line),
+        b"wanted is TICK wake NAME, TICK block NAME, TICK burst NAME WORK, or TICK change and edits,\ntableau: each set NAME PPM NS or leave NAME; a tick is a whole number (5 ms are 4995), a comment\ntableau: has a line of its own, and lines end in LF alone",
     )
 }

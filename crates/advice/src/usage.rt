@@ -1,7 +1,7 @@
 ghost use Rattle.std.specs.Prelude.{◌≡◌, ◌≤◌, ◌++◌, flat_map, length, option_map, slice_get, string_bytes, take};
 ghost use Rattle.tab_io.specs.Sinks.{Writes};
 ghost use Rattle.tab_words.specs.Commands.{texts};
-ghost use Rattle.advice.specs.Usage.{after_space, are_plain, asks_help, behind_text, file_text, file_word, found_word_text, has_dot, hint_text, is_begun, is_file_word, is_plain_byte, missing_text, read_behind, reads_by_name, shell_text, usage_text, wanted_behind, wanted_first, wanted_name, wanted_rounds, wanted_second, wanted_third, wanted_word_text};
+ghost use Rattle.advice.specs.Usage.{after_space, are_figures, are_plain, asks_help, behind_text, file_text, file_word, found_word_text, has_dot, hint_text, is_begun, is_figure, is_file_word, is_plain_byte, missing_text, read_behind, reads_by_name, shell_text, usage_text, wanted_behind, wanted_first, wanted_name, wanted_rounds, wanted_second, wanted_third, wanted_word_text};
 
 use crate::part::{Part, put_parts};
 use tab_io::{Sink, WriteFault, write_all};
@@ -144,7 +144,7 @@ fn put_hint<K: Sink>(sink: &mut K, front: &[String], word: &[u8]) -> Result<(), 
         Ok(())
     } else if asks_help(word) {
         write_all(sink, b"tableau: for help type: tableau --help\n")
-    } else if read_behind(front) {
+    } else if read_behind(front) && !are_figures(word) {
         put_shell(sink, front, word)
     } else {
         Ok(())
@@ -369,6 +369,20 @@ fn are_plain(word: &[u8]) -> bool
     ensures { result ≡ are_plain word.now }
 {
     word.iter().all(|byte| is_plain_byte(*byte))
+}
+
+// Whether the word is meant as a number and not as a file's name.
+fn are_figures(word: &[u8]) -> bool
+    ensures { result ≡ are_figures word.now }
+{
+    word.iter().all(|byte| is_figure(*byte))
+}
+
+// A digit or a point.
+fn is_figure(byte: u8) -> bool
+    ensures { result ≡ is_figure byte }
+{
+    byte.is_ascii_digit() || byte == b'.'
 }
 
 // A letter, a digit or one of `-./_`, which no shell takes for more than it is.

@@ -16,9 +16,9 @@ use Rattle.tab_words.proofs.NumberLemmas.{digit_below}
 own : IsNumeralModel (λ ds. AllDigits 10 ds) (digits_value 10)
 own = numerals_by_value _ tells_digits
 
--- four digits write less than 10000
-pub short_value : (digits : List ℕ) → AllDigits 10 digits → length digits ≤ 4 → digits_value 10 digits < 10000
-short_value digits all few = digits_value_short own digits 4 all few
+-- nine digits write less than 1000000000
+pub short_value : (digits : List ℕ) → AllDigits 10 digits → length digits ≤ 9 → digits_value 10 digits < 1000000000
+short_value digits all few = digits_value_short own digits 9 all few
 
 -- no digit is a point
 pub no_point : (digits : List ℕ) → AllDigits 10 digits → All (λ byte. byte ≢ 46) digits

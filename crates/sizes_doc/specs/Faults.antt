@@ -18,7 +18,7 @@ bad_part_words part.Share =
 bad_part_words part.ShareUnit = codes "the share has no unit: write it as 20% or 200000ppm"
 bad_part_words part.ShareZero = codes "the share is 0: the least is 1ppm"
 bad_part_words part.ShareAbove = codes "the share is above 100%, a whole core"
-bad_part_words part.Latency = codes "the latency isn't a whole number of s, ms, us or ns: write it as 20ms"
+bad_part_words part.Latency = codes "the latency isn't whole nanoseconds in s, ms, us or ns: write it as 20ms or 1.5ms"
 bad_part_words part.LatencyUnit = codes "the latency has no unit: write it as 20ms, or with s, us or ns"
 bad_part_words part.LatencyAbove = codes "the latency is above 1000s"
 

@@ -56,28 +56,28 @@ pub record IsMeasure (unit : List ℕ) (factor : ℕ) (word : List ℕ) (value :
   pub digits : word ≡ decimal number ++ unit
   pub counted : value ≡ number * factor
 
--- the bytes are one to four decimals, which come to so many ten-thousandths
-pub record AreDecimals (bytes : List ℕ) (count : ℕ) : Type 0 where
+-- the bytes are decimals, of which there are at most so many, and of a unit they make this whole count of its parts
+pub record AreDecimals (most factor : ℕ) (bytes : List ℕ) (count : ℕ) : Type 0 where
   pub some : 1 ≤ length bytes
-  pub few : length bytes ≤ 4
+  pub few : length bytes ≤ most
   pub digits : AllDigits 10 bytes
-  pub counted : count * 10 ^ length bytes ≡ digits_value 10 bytes * 10000
+  pub counted : count * 10 ^ length bytes ≡ digits_value 10 bytes * factor
 
--- the bytes are a number with a point, whose ten-thousandths these are: whole digits as a number has them,
--- a point, and one to four decimals
-pub record HasPoint (bytes : List ℕ) (value : ℕ) : Type 0 where
+-- the bytes are a number with a point of units that have so many parts each, and these are its parts: whole digits as a
+-- number has them, a point, and decimals
+pub record HasPoint (most factor : ℕ) (bytes : List ℕ) (value : ℕ) : Type 0 where
   pub number : ℕ
   pub decimals : List ℕ
   pub count : ℕ
   pub fits : number < 2 ^ 64
-  pub after : AreDecimals decimals count
+  pub after : AreDecimals most factor decimals count
   pub written : bytes ≡ decimal number ++ codes "." ++ decimals
-  pub counted : value ≡ number * 10000 + count
+  pub counted : value ≡ number * factor + count
 
--- the bytes are a percentage, without its sign, of so many parts per million: a percent has 10000, so its
--- ten-thousandths are parts per million
+-- the bytes are a percentage, without its sign, of so many parts per million: a percent has 10000, so it has at most
+-- four decimals
 abbrev pub IsPercentage : List ℕ → ℕ → Type 0
-IsPercentage bytes ppm = IsMeasure [] 10000 bytes ppm ⊎ HasPoint bytes ppm
+IsPercentage bytes ppm = IsMeasure [] 10000 bytes ppm ⊎ HasPoint 4 10000 bytes ppm
 
 -- the word is a percentage with its sign
 pub record IsPercent (word : List ℕ) (ppm : ℕ) : Type 0 where
@@ -95,11 +95,26 @@ pub record IsShare (word : List ℕ) (ppm : ℕ) : Type 0 where
   pub whole : ppm ≤ WHOLE_PPM
   pub measured : IsShareWord word ppm
 
+-- the word is a number with a point and at most nine decimals, with this unit after it, of which each has so many
+-- nanoseconds, and these are its whole nanoseconds
+pub record IsPointed (unit : List ℕ) (factor : ℕ) (word : List ℕ) (ns : ℕ) : Type 0 where
+  pub bytes : List ℕ
+  pub written : word ≡ bytes ++ unit
+  pub is : HasPoint 9 factor bytes ns
+
+-- the word is a time in this unit
+abbrev pub IsTimeIn : List ℕ → ℕ → List ℕ → ℕ → Type 0
+IsTimeIn unit factor word ns = IsMeasure unit factor word ns ⊎ IsPointed unit factor word ns
+
 -- the word is a time of so many nanoseconds
 abbrev pub IsTime : List ℕ → ℕ → Type 0
-IsTime word ns = IsMeasure (codes "ms") 1000000 word ns
-    ⊎ (IsMeasure (codes "us") 1000 word ns
-    ⊎ (IsMeasure (codes "ns") 1 word ns ⊎ IsMeasure (codes "s") 1000000000 word ns))
+IsTime word ns = IsTimeIn (codes "ms") 1000000 word ns
+    ⊎ (IsTimeIn (codes "us") 1000 word ns
+    ⊎ (IsTimeIn (codes "ns") 1 word ns ⊎ IsTimeIn (codes "s") 1000000000 word ns))
+
+-- the word is a time of so many nanoseconds, in a unit, or without one in units of so many
+abbrev pub IsTimeOr : ℕ → List ℕ → ℕ → Type 0
+IsTimeOr factor word ns = IsMeasure [] factor word ns ⊎ IsTime word ns
 
 -- the word is this latency in nanoseconds
 pub record IsLatency (word : List ℕ) (ns : ℕ) : Type 0 where
@@ -135,7 +150,7 @@ pub data IsBadShare (word : List ℕ) : Part → Type 0 where
   NoShare : ((ppm : ℕ) → IsShareWord word ppm → ⊥) → ((ppm : ℕ) → IsPercentage word ppm → ⊥)
       → IsBadShare word part.Share
 
--- why the word is no latency: a number without a unit, above the bound, or no number with a unit
+-- why the word is no latency: a number without a unit, above the bound, or no whole nanoseconds with a unit
 pub data IsBadLatency (word : List ℕ) : Part → Type 0 where
   NoTimeUnit : (n : ℕ) → IsMeasure [] 1 word n → IsBadLatency word part.LatencyUnit
   IsTimeAbove : (ns : ℕ) → IsTime word ns → MAX_LATENCY_NS < ns → IsBadLatency word part.LatencyAbove

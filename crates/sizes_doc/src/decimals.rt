@@ -7,9 +7,12 @@ ghost use Rattle.sizes_doc.specs.Sizes.{AreDecimals, HasPoint};
 use crate::measure::times;
 use tab_words::read_number;
 
-// The ten-thousandths of a number with a point.
-pub(crate) fn pointed_of(bytes: &[u8]) -> Option<u64>
-    ensures { MatchOption result ((value : ℕ) → HasPoint bytes.now value → ⊥) (HoldsSaturated (HasPoint bytes.now)) }
+// The parts of a number with a point and at most so many decimals, of units that have this many parts.
+pub(crate) fn pointed_of(bytes: &[u8], most: usize, factor: u64) -> Option<u64>
+    requires most { most ≤ 9 }
+    requires factor { factor ≤ 1000000000 }
+    ensures { MatchOption result ((value : ℕ) → HasPoint most factor bytes.now value → ⊥)
+        (HoldsSaturated (HasPoint most factor bytes.now)) }
 {
     let Some((before, after)) = cut_at_point(bytes) else {
         return None;
@@ -17,8 +20,8 @@ pub(crate) fn pointed_of(bytes: &[u8]) -> Option<u64>
     let Some(number) = read_number(before) else {
         return None;
     };
-    match decimals_of(after) {
-        Some(count) => Some(plus(times(number, 10_000), count)),
+    match decimals_of(after, most, factor) {
+        Some(count) => Some(plus(times(number, factor), count)),
         None => None,
     }
 }
@@ -45,42 +48,66 @@ fn cut_at_point(bytes: &[u8]) -> Option<(&[u8], &[u8])>
     }
 }
 
-// The ten-thousandths that one to four decimals come to.
-fn decimals_of(bytes: &[u8]) -> Option<u64>
-    ensures { MatchOption result ((count : ℕ) → AreDecimals bytes.now count → ⊥) (AreDecimals bytes.now) }
+// The parts that these decimals come to, if there are at most so many, and these parts are whole.
+fn decimals_of(bytes: &[u8], most: usize, factor: u64) -> Option<u64>
+    requires most { most ≤ 9 }
+    requires factor { factor ≤ 1000000000 }
+    ensures { MatchOption result ((count : ℕ) → AreDecimals most factor bytes.now count → ⊥)
+        (AreDecimals most factor bytes.now) }
 {
     if bytes.is_empty() {
         return None;
     }
-    if bytes.len() > 4 {
+    if bytes.len() > most {
         return None;
     }
     match digits_of(bytes) {
-        Some(number) => Some(filled(number, bytes.len())),
+        Some(number) => parts_of(number, bytes.len(), factor),
         None => None,
     }
 }
 
-// The ten-thousandths that so many decimals of this number come to.
-fn filled(number: u64, decimals: usize) -> u64
-    requires small { number < 10000 }
-    requires some { 1 ≤ decimals }
-    requires few { decimals ≤ 4 }
-    ensures { result * 10 ^ decimals ≡ number * 10000 }
+// The whole parts that so many decimals of this number come to, if they come to whole ones.
+fn parts_of(number: u64, decimals: usize, factor: u64) -> Option<u64>
+    requires small { number < 1000000000 }
+    requires few { decimals ≤ 9 }
+    requires factor { factor ≤ 1000000000 }
+    ensures { MatchOption result ((count : ℕ) → count * 10 ^ decimals ≡ number * factor → ⊥)
+        (λ count. count * 10 ^ decimals ≡ number * factor) }
+{
+    let scale = scale_of(decimals);
+    let parts = number * factor;
+    if parts % scale != 0 {
+        return None;
+    }
+    Some(parts / scale)
+}
+
+// The power of ten.
+fn scale_of(decimals: usize) -> u64
+    requires { decimals ≤ 9 }
+    ensures power { result ≡ 10 ^ decimals }
+    ensures some { 1 ≤ result }
 {
     match decimals {
-        1 => number * 1000,
-        2 => number * 100,
-        3 => number * 10,
-        _ => number,
+        0 => 1,
+        1 => 10,
+        2 => 100,
+        3 => 1000,
+        4 => 10_000,
+        5 => 100_000,
+        6 => 1_000_000,
+        7 => 10_000_000,
+        8 => 100_000_000,
+        _ => 1_000_000_000,
     }
 }
 
-// The number that at most four digits write.
+// The number that at most nine digits write.
 fn digits_of(bytes: &[u8]) -> Option<u64>
-    requires { length bytes.now ≤ 4 }
+    requires { length bytes.now ≤ 9 }
     ensures number { SomeIff result (AllDigits 10 bytes.now) (digits_value 10 bytes.now) }
-    ensures small { IfSome result (λ number. number < 10000) }
+    ensures small { IfSome result (λ number. number < 1000000000) }
 {
     let mut number: u64 = 0;
     for byte in bytes {

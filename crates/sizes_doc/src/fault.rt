@@ -20,7 +20,7 @@ pub enum Part {
     ShareUnit,
     ShareZero,
     ShareAbove,
-    /// The latency is no number with a unit, nor one without.
+    /// The latency is no whole nanoseconds with a unit, nor a number without.
     Latency,
     LatencyUnit,
     LatencyAbove,
@@ -46,7 +46,7 @@ impl fmt::Display for Part {
             Part::ShareAbove => write!(f, "the share is above 100%, a whole core"),
             Part::Latency => write!(
                 f,
-                "the latency isn't a whole number of s, ms, us or ns: write it as 20ms"
+                "the latency isn't whole nanoseconds in s, ms, us or ns: write it as 20ms or 1.5ms"
             ),
             Part::LatencyUnit => write!(
                 f,

@@ -14,6 +14,7 @@ mod sized_host;
 mod twice;
 
 pub use fault::{Part, SizesFault};
+pub use measure::read_time_or;
 pub use size::Size;
 pub use size_reader::read_sizes;
 pub use sized_host::{host_of_sizes, name_in_sizes};

@@ -1,6 +1,6 @@
-ghost use Rattle.std.specs.Prelude.{◌≡◌, ◌≢◌, ℕ, ◌*◌, ◌++◌, List, IfErr, IfOk, MatchOption, decimal};
+ghost use Rattle.std.specs.Prelude.{◌≡◌, ◌≢◌, ℕ, ◌*◌, ◌++◌, ◌≤◌, List, IfErr, IfOk, MatchOption, decimal};
 ghost use Rattle.sizes_doc.specs.Inside.Held.{HoldsSaturated, IsSaturated};
-ghost use Rattle.sizes_doc.specs.Sizes.{IsBadLatency, IsBadShare, IsCount, IsLatency, IsMeasure, IsPercent, IsPercentage, IsShare, IsShareWord, IsTime};
+ghost use Rattle.sizes_doc.specs.Sizes.{IsBadLatency, IsBadShare, IsCount, IsLatency, IsMeasure, IsPercent, IsPercentage, IsPointed, IsShare, IsShareWord, IsTime, IsTimeIn, IsTimeOr};
 
 use crate::decimals::pointed_of;
 use crate::fault::Part;
@@ -49,7 +49,7 @@ pub(crate) fn latency_of(word: &[u8]) -> Result<u64, Part>
     ensures ok { IfOk result (IsLatency word.now) }
     ensures part { IfErr result (IsBadLatency word.now) }
 {
-    let Some(ns) = time_of(word) else {
+    let Some(ns) = read_time(word) else {
         return match in_unit(word, b"", 1) {
             Some(_) => Err(Part::LatencyUnit),
             None => Err(Part::Latency),
@@ -89,23 +89,60 @@ fn percentage_of(bytes: &[u8]) -> Option<u64>
     if let Some(ppm) = in_unit(bytes, b"", 10_000) {
         return Some(ppm);
     }
-    pointed_of(bytes)
+    pointed_of(bytes, 4, 10_000)
 }
 
-// The nanoseconds that a time is.
-fn time_of(word: &[u8]) -> Option<u64>
+// The nanoseconds that a time is, or 2^64 - 1 if there are more.
+fn read_time(word: &[u8]) -> Option<u64>
     ensures { MatchOption result ((ns : ℕ) → IsTime word.now ns → ⊥) (HoldsSaturated (IsTime word.now)) }
 {
-    if let Some(ns) = in_unit(word, b"ms", 1_000_000) {
+    if let Some(ns) = time_in(word, b"ms", 1_000_000) {
         return Some(ns);
     }
-    if let Some(ns) = in_unit(word, b"us", 1000) {
+    if let Some(ns) = time_in(word, b"us", 1000) {
         return Some(ns);
     }
-    if let Some(ns) = in_unit(word, b"ns", 1) {
+    if let Some(ns) = time_in(word, b"ns", 1) {
         return Some(ns);
     }
-    in_unit(word, b"s", 1_000_000_000)
+    time_in(word, b"s", 1_000_000_000)
+}
+
+/// The nanoseconds that a time is, or 2^64 - 1 if there are more: a number of s, ms, us or ns, as `20ms`, with up to nine
+/// decimals, as `1.5ms`, or a whole number without a unit, which counts units of so many nanoseconds. There are none if the
+/// word is no such time, or comes to no whole nanoseconds.
+pub fn read_time_or(word: &[u8], factor: u64) -> Option<u64>
+    ensures { MatchOption result ((ns : ℕ) → IsTimeOr factor word.now ns → ⊥)
+        (HoldsSaturated (IsTimeOr factor word.now)) }
+{
+    if let Some(ns) = in_unit(word, b"", factor) {
+        return Some(ns);
+    }
+    read_time(word)
+}
+
+// The nanoseconds that a time in this unit is.
+fn time_in(word: &[u8], unit: &[u8], factor: u64) -> Option<u64>
+    requires { factor ≤ 1000000000 }
+    ensures { MatchOption result ((ns : ℕ) → IsTimeIn unit.now factor word.now ns → ⊥)
+        (HoldsSaturated (IsTimeIn unit.now factor word.now)) }
+{
+    if let Some(ns) = in_unit(word, unit, factor) {
+        return Some(ns);
+    }
+    pointed_in(word, unit, factor)
+}
+
+// The nanoseconds that a time with a point in this unit is.
+fn pointed_in(word: &[u8], unit: &[u8], factor: u64) -> Option<u64>
+    requires { factor ≤ 1000000000 }
+    ensures { MatchOption result ((ns : ℕ) → IsPointed unit.now factor word.now ns → ⊥)
+        (HoldsSaturated (IsPointed unit.now factor word.now)) }
+{
+    let Some(bytes) = without(word, unit) else {
+        return None;
+    };
+    pointed_of(bytes, 9, factor)
 }
 
 // The value of a number with this unit after it.

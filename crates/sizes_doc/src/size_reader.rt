@@ -18,8 +18,8 @@ use tab_words::{Lines, Words};
 ///
 /// A size is NAME VMS x VCPUS SHARE LATENCY, or vm NAME VCPUS SHARE LATENCY for one VM; `capped` may follow as the
 /// last word. Counts are 1 to 256. A share is in percent of a core, with up to four decimals, as `12.5%`, or in parts
-/// per million, as `125000ppm`, above 0 and up to a whole core. A latency is a whole number of s, ms, us or ns, as
-/// `20ms`, and at most 1000 s. A line without words and one whose first byte is `#` are skipped, and count as lines.
+/// per million, as `125000ppm`, above 0 and up to a whole core. A latency is a number of s, ms, us or ns, as `20ms`, with
+/// up to nine decimals, as `1.5ms`; it comes to whole nanoseconds, at most 1000 s. A line without words and one whose first byte is `#` are skipped, and count as lines.
 /// `BadSize` comes where another line is there, and names the first and its first bad part.
 pub fn read_sizes(alloc: Global, bytes: &[u8]) -> Result<Vec<Size<'_>>, SizesFault>
     requires { length bytes.now < 2 ^ 32 }

@@ -16,16 +16,16 @@ use std::io::{self, BufWriter, ErrorKind, IsTerminal};
 use std::process::ExitCode;
 use tab_io::{StdSink, StdSource};
 use tableau_sim::{Status, tableau};
-use told::{prompt, tell};
+use told::{prompt, tell, tell_no_text};
 
 fn main(rt: HostRuntime) -> ExitCode {
-    let all = match program_words::words(&rt, rt.alloc()) {
-        Ok(words) => words,
+    let (all, are_text) = match program_words::words(&rt, rt.alloc()) {
+        Ok(words) => (words, true),
         Err(fault) if fault.kind() == ErrorKind::OutOfMemory => {
             return ExitCode::from(Status::NoMemory.exit());
         }
         // A word isn't text: the answer is that to no words.
-        Err(_) => Vec::new(rt.alloc()),
+        Err(_) => (Vec::new(rt.alloc()), false),
     };
     let words = match all.as_slice() {
         [] => &[],
@@ -68,7 +68,9 @@ fn main(rt: HostRuntime) -> ExitCode {
         gate.tell_threads();
     }
     let is_over = matches!(done.status, Status::WriteFault) && is_closed_pipe(&mut io::writer(&rt));
-    if !is_over {
+    if !are_text {
+        tell_no_text(&rt.stderr());
+    } else if !is_over {
         tell(&rt.stderr(), rt.alloc(), words, input.kept(), &done);
     }
     ExitCode::from(done.status.exit())

@@ -37,6 +37,13 @@ pub(crate) fn tell<P: Print>(output: &P, alloc: Global, words: &[String], input:
     let _ = output.write_all(sink.bytes());
 }
 
+/// Writes what to do about a word that isn't text. Where the output fails, nothing more is written.
+pub(crate) fn tell_no_text<P: Print>(output: &P) {
+    let _ = output.write_all(
+        b"tableau: a word of the command isn't text in UTF-8; for help type: tableau --help\n",
+    );
+}
+
 // What the advice is asked of.
 fn refusal_of(done: &Done) -> Option<Refusal<'_>> {
     let refusal = match &done.status {

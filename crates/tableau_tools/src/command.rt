@@ -5,7 +5,7 @@
 use clap::builder::ValueParser;
 use clap::{Arg, ArgAction, Command};
 use std::alloc::{AllocError, Global};
-use tab_core::{MAX_CORES, MAX_TICK_NS, MIN_TICK_NS};
+use tab_core::MAX_CORES;
 
 // What `--version` says. A program that knew its revision would be another with each of them, so the installation has it.
 const VERSION: &str =
@@ -13,9 +13,6 @@ const VERSION: &str =
 
 // The greatest number of a CPU.
 const MAX_CPU: i64 = 8191;
-
-// The most milliseconds of a window, which are an hour.
-const MAX_WINDOW_MS: i64 = 3_600_000;
 
 // The most hosts that `place` counts.
 const MAX_HOSTS: i64 = 65_535;
@@ -77,11 +74,8 @@ const FILE: Word = Word {
 // How long a tick is.
 const TICK: Word = Word {
     name: "tick",
-    kind: Kind::Option(
-        "NS",
-        ValueParser::Signed(MIN_TICK_NS as i64, MAX_TICK_NS as i64),
-    ),
-    help: "Nanoseconds of a tick; without it, 1001",
+    kind: Kind::Option("NS", TEXT),
+    help: "Nanoseconds of a tick, 500 to 2002, or a time as 1us; without it, 1001",
     ..VALUE
 };
 
@@ -124,6 +118,14 @@ const SIZES: Word = Word {
     name: "SIZE",
     kind: Kind::List,
     help: "VMs of a size, as \"small 18 x 2 20% 20ms\", or one VM, as \"vm mail 4 30% 50ms\"; without it, lines of standard input",
+    ..VALUE
+};
+
+// Whether there may be no size.
+const EMPTY: Word = Word {
+    name: "empty",
+    kind: Kind::Flag,
+    help: "Takes no size for a host without VMs; without it, no size is refused",
     ..VALUE
 };
 
@@ -284,9 +286,9 @@ const JUDGE: Entry = Entry {
         },
         Word {
             name: "window",
-            kind: Kind::Option("MS", ValueParser::Signed(1, MAX_WINDOW_MS)),
+            kind: Kind::Option("TIME", TEXT),
             default: &["1000"],
-            help: "Milliseconds of running and waiting in each window in which shares are counted, 1 to 3600000",
+            help: "The running and waiting in each window in which shares are counted: milliseconds, or a time as 1.5s; 1ms to 3600s",
             ..VALUE
         },
         Word {
@@ -316,14 +318,14 @@ const SECTIONS: Entry = Entry {
 const HOST: Entry = Entry {
     name: "host",
     about: "Writes the host document of sizes of VMs",
-    words: &[CORES, TICK, SIZES],
+    words: &[CORES, TICK, EMPTY, SIZES],
 };
 
 // What `fit` takes.
 const FIT: Entry = Entry {
     name: "fit",
     about: "Writes how VMs of sizes fit a host, and how many more of each would; ends with 3 where they don't fit",
-    words: &[CORES, TICK, SIZES],
+    words: &[CORES, TICK, EMPTY, SIZES],
 };
 
 // What `place` takes: which hosts there are, what is kept of an earlier placing, and what is written.
@@ -373,6 +375,7 @@ const PLACE: Entry = Entry {
             ..VALUE
         },
         TICK,
+        EMPTY,
         SIZES,
     ],
 };
@@ -389,6 +392,7 @@ pub(crate) fn command<'a>(alloc: Global) -> Result<Command<'a>, AllocError> {
         commands.push(command_of(alloc, entry)?)?;
     }
     Command::new(alloc, "tableau-tools")
+        .bin_name("tableau-tools")?
         .version(VERSION)
         .about("Shows what tableau wrote, and writes what it reads")
         .subcommand_required(true)
@@ -417,7 +421,10 @@ fn arg_of<'a>(alloc: Global, word: &Word) -> Arg<'a> {
         Kind::Value(values) => arg.value_parser(values),
         Kind::List => arg.action(ArgAction::Append).num_args(1..),
         Kind::Option(value, values) => {
-            arg.long(word.name).value_name(value).value_parser(values)
+            arg.long(word.name)
+                .value_name(value)
+                .value_parser(values)
+                .allow_negative_numbers(true)
         }
         Kind::Flag => arg.long(word.name).action(ArgAction::SetTrue),
     }

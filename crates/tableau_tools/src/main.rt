@@ -17,7 +17,8 @@ use tool_input::Fault;
 use tool_views::{chart, diff, report, table};
 use view_judge::Verdict;
 use words::{
-    chart_words, diff_words, export, form_words, judge_words, place_words, size_words, table_words,
+    chart_words, diff_words, export, form_words, has_tick, judge_words, place_words, size_words,
+    table_words,
 };
 
 // The status of `diff` and of `judge` for a fault, since their 1 says that the plans differ, or that a promise was broken.
@@ -97,6 +98,9 @@ fn told(rt: &HostRuntime, error: &Error, status: u8) -> Result<u8, Fault> {
 
 // Does the command that was met, and gives its status.
 fn dispatch(rt: &HostRuntime, matches: &ArgMatches<'_>) -> Result<u8, Fault> {
+    if let Some((_, matches)) = matches.subcommand() {
+        has_tick(rt.alloc(), matches)?;
+    }
     match matches.subcommand() {
         Some(("diff", matches)) => differs(rt, matches),
         Some(("judge", matches)) => judged(rt, matches),

@@ -1,12 +1,35 @@
 //! Each command as its words say it: the words that clap met become the values that the crates of the commands take.
 
 use clap::ArgMatches;
+use sizes_doc::read_time_or;
+use std::alloc::Global;
+use tab_core::{MAX_TICK_NS, MIN_TICK_NS};
 use tool_hosts::{JudgeWords, LineForm, LineWords, PlaceWords, SizeWords, export_lines};
-use tool_input::Fault;
+use tool_input::{Fault, shown};
 use tool_kernel::export_tables;
 use tool_views::{
     ChartWords, DiffWords, ExportWords, Form, Format, TableWords, export_view, form_of,
 };
+
+/// Refuses a tick that no host has.
+pub(crate) fn has_tick(alloc: Global, matches: &ArgMatches<'_>) -> Result<(), Fault> {
+    match matches.get_str("tick") {
+        Some(word) if tick_ns(matches).is_none() => Err(Fault::BadTick {
+            text: shown(alloc, word.as_bytes())?,
+        }),
+        _ => Ok(()),
+    }
+}
+
+// Nanoseconds of the tick that the words name, if they name one that hosts have.
+fn tick_ns(matches: &ArgMatches<'_>) -> Option<u32> {
+    let ns = read_time_or(matches.get_str("tick")?.as_bytes(), 1)?;
+    if ns >= u64::from(MIN_TICK_NS) && ns <= u64::from(MAX_TICK_NS) {
+        Some(ns as u32)
+    } else {
+        None
+    }
+}
 
 /// The words of `chart`.
 pub(crate) fn chart_words<'w>(matches: &'w ArgMatches<'_>) -> ChartWords<'w> {
@@ -19,7 +42,7 @@ pub(crate) fn chart_words<'w>(matches: &'w ArgMatches<'_>) -> ChartWords<'w> {
         from: matches.get_one::<u32>("from"),
         to: matches.get_one::<u32>("to"),
         width: matches.get_one::<u32>("width"),
-        tick_ns: matches.get_one::<u32>("tick"),
+        tick_ns: tick_ns(matches),
     }
 }
 
@@ -37,7 +60,7 @@ pub(crate) fn table_words<'w>(matches: &'w ArgMatches<'_>, form: Form) -> TableW
     TableWords {
         form,
         file: matches.get_str("FILE"),
-        tick_ns: matches.get_one::<u32>("tick"),
+        tick_ns: tick_ns(matches),
     }
 }
 
@@ -47,7 +70,7 @@ pub(crate) fn diff_words<'w>(matches: &'w ArgMatches<'_>, form: Form) -> DiffWor
         form,
         old: matches.get_str("OLD"),
         new: matches.get_str("NEW"),
-        tick_ns: matches.get_one::<u32>("tick"),
+        tick_ns: tick_ns(matches),
     }
 }
 
@@ -82,7 +105,7 @@ fn suits_format(matches: &ArgMatches<'_>, format: &str) -> Result<(), Fault> {
         return other_format("--map", "rtds, deadline, cgroup and libvirt");
     }
     let has_times = format == "chrome" || format == "json";
-    if matches.get_one::<u32>("tick").is_some() && !has_times {
+    if matches.get_str("tick").is_some() && !has_times {
         return other_format("--tick", "chrome and json");
     }
     Ok(())
@@ -108,7 +131,7 @@ fn export_words<'w>(matches: &'w ArgMatches<'_>, format: Format) -> ExportWords<
     ExportWords {
         format,
         file: matches.get_str("FILE"),
-        tick_ns: matches.get_one::<u32>("tick"),
+        tick_ns: tick_ns(matches),
     }
 }
 
@@ -118,7 +141,7 @@ pub(crate) fn judge_words<'w>(matches: &'w ArgMatches<'_>) -> JudgeWords<'w> {
         host: matches.get_str("HOST"),
         trace: matches.get_str("TRACE"),
         plan: matches.get_str("plan"),
-        window_ms: matches.get_one::<u32>("window"),
+        window: matches.get_str("window"),
         is_json: matches.get_flag("json"),
     }
 }
@@ -127,8 +150,9 @@ pub(crate) fn judge_words<'w>(matches: &'w ArgMatches<'_>) -> JudgeWords<'w> {
 pub(crate) fn size_words<'w, 'm: 'w>(matches: &'w ArgMatches<'m>) -> SizeWords<'w> {
     SizeWords {
         cores: matches.get_one::<u32>("cores"),
-        tick_ns: matches.get_one::<u32>("tick"),
+        tick_ns: tick_ns(matches),
         sizes: matches.get_strs("SIZE"),
+        empty: matches.get_flag("empty"),
     }
 }
 
@@ -142,7 +166,8 @@ pub(crate) fn place_words<'w, 'm: 'w>(matches: &'w ArgMatches<'m>) -> PlaceWords
         host: matches.get_one::<u32>("host"),
         documents: matches.get_flag("documents"),
         summary: matches.get_flag("summary"),
-        tick_ns: matches.get_one::<u32>("tick"),
+        tick_ns: tick_ns(matches),
         sizes: matches.get_strs("SIZE"),
+        empty: matches.get_flag("empty"),
     }
 }

@@ -1,3 +1,4 @@
 pub mod Earlier
 pub mod Exports
 pub mod Inside
+pub mod Windows

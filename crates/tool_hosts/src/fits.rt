@@ -1,11 +1,11 @@
 ghost use Rattle.std.specs.Prelude.{◌≤◌, length};
 ghost use Rattle.tab_core.specs.declared.TheConstants.{MAX_CORES};
 
-use crate::hosts::{SizeWords, host_fault, text_of, unread_sizes};
+use crate::hosts::{SizeWords, host_fault, sizes_of, text_of};
 use crate::remedy::{Remedy, remedy_of};
 use plan_make::PlanFault;
 use size_fit::{Fit, fit_sizes, write_fit, write_refusal};
-use sizes_doc::{host_of_sizes, read_sizes};
+use sizes_doc::host_of_sizes;
 use tab_core::{Host, MAX_CORES, MAX_TICK_NS, MIN_TICK_NS, TICK_NS};
 use tool_input::{Fault, finish, output_of};
 
@@ -19,10 +19,7 @@ pub fn fit(rt: &HostRuntime, words: &SizeWords<'_>) -> Result<bool, Fault> {
         .unwrap_or(TICK_NS)
         .clamp(MIN_TICK_NS, MAX_TICK_NS);
     let text = text_of(rt, words.sizes)?;
-    let sizes = match read_sizes(rt.alloc(), &text) {
-        Ok(sizes) => sizes,
-        Err(fault) => return Err(unread_sizes(rt.alloc(), &text, fault)),
-    };
+    let sizes = sizes_of(rt.alloc(), &text, words.empty)?;
     let host = match host_of_sizes(rt.alloc(), cores, tick_ns, sizes.as_slice()) {
         Ok(host) => host,
         Err(fault) => return Err(host_fault(rt.alloc(), sizes.as_slice(), fault)),

@@ -1,4 +1,6 @@
-ghost use Rattle.std.specs.Prelude.{◌<◌, ◌≤◌, ◌^◌, All, IfOk, IsSome, length};
+ghost use Rattle.std.specs.Prelude.{◌≡◌, ◌<◌, ◌≤◌, ◌^◌, All, IfOk, IsSome, false, length};
+ghost use Rattle.script_doc.specs.Statements.{statements_of};
+ghost use Rattle.sizes_doc.specs.SizeLines.{AreSizes};
 ghost use Rattle.tab_core.specs.declared.TheConstants.{MAX_CORES, MAX_TICK_NS, MIN_TICK_NS};
 
 use host_gen::write_host;
@@ -19,6 +21,8 @@ pub struct SizeWords<'w> {
     pub tick_ns: Option<u32>,
     /// The sizes; lines of standard input where there are none.
     pub sizes: Option<&'w [&'w str]>,
+    /// Whether there may be no size.
+    pub empty: bool,
 }
 
 /// Does `host`: it writes the document of the host that the sizes make.
@@ -30,7 +34,7 @@ pub fn host(rt: &HostRuntime, words: &SizeWords<'_>) -> Result<(), Fault> {
         .unwrap_or(TICK_NS)
         .clamp(MIN_TICK_NS, MAX_TICK_NS);
     let text = text_of(rt, words.sizes)?;
-    let host = host_from(rt.alloc(), &text, cores, tick_ns)?;
+    let host = host_from(rt.alloc(), &text, words.empty, cores, tick_ns)?;
     put_host(rt, &host)
 }
 
@@ -62,8 +66,37 @@ fn too_long(rt: &HostRuntime) -> Fault {
     }
 }
 
+/// The sizes of a text, a line each. Without one the text is refused, unless it may be empty.
+pub(crate) fn sizes_of(alloc: Global, text: &[u8], empty: bool) -> Result<Vec<Size<'_>>, Fault>
+    requires { length text.now < 2 ^ 32 }
+    ensures sizes { IfOk result (λ sizes. AreSizes (statements_of text.now) sizes.items) }
+    ensures some { IfOk result (λ sizes. empty ≡ false → 0 < length sizes.items) }
+{
+    match read_sizes(alloc, text) {
+        Ok(sizes) => some_of(sizes, empty),
+        Err(fault) => Err(unread_sizes(alloc, text, fault)),
+    }
+}
+
+// The sizes, if there is one or there may be none.
+fn some_of(sizes: Vec<Size<'_>>, empty: bool) -> Result<Vec<Size<'_>>, Fault>
+    ensures same { IfOk result (λ some. some.items ≡ sizes.entry.items) }
+    ensures some { IfOk result (λ some. empty ≡ false → 0 < length some.items) }
+{
+    if sizes.is_empty() && !empty {
+        return Err(Fault::NoSizes);
+    }
+    Ok(sizes)
+}
+
 // The host that the lines of sizes make.
-fn host_from(alloc: Global, text: &[u8], cores: u32, tick_ns: u32) -> Result<Host, Fault>
+fn host_from(
+    alloc: Global,
+    text: &[u8],
+    empty: bool,
+    cores: u32,
+    tick_ns: u32,
+) -> Result<Host, Fault>
     requires short { length text.now < 2 ^ 32 }
     requires some_core { 1 ≤ cores }
     requires few_cores { cores ≤ MAX_CORES }
@@ -71,41 +104,67 @@ fn host_from(alloc: Global, text: &[u8], cores: u32, tick_ns: u32) -> Result<Hos
     requires most_tick { tick_ns ≤ MAX_TICK_NS }
     ensures { IfOk result (λ host. All (λ vcpu. IsSome vcpu.reservation) host.vcpus) }
 {
-    match read_sizes(alloc, text) {
-        Ok(sizes) => match host_of_sizes(alloc, cores, tick_ns, sizes.as_slice()) {
-            Ok(host) => Ok(host),
-            Err(fault) => Err(host_fault(alloc, sizes.as_slice(), fault)),
-        },
-        Err(fault) => Err(unread_sizes(alloc, text, fault)),
+    let sizes = sizes_of(alloc, text, empty)?;
+    match host_of_sizes(alloc, cores, tick_ns, sizes.as_slice()) {
+        Ok(host) => Ok(host),
+        Err(fault) => Err(host_fault(alloc, sizes.as_slice(), fault)),
     }
 }
 
-/// Why lines aren't read as sizes. Where the first bad one ends in a carriage return, that is said.
-pub(crate) fn unread_sizes(alloc: Global, text: &[u8], fault: SizesFault) -> Fault {
-    let SizesFault::BadSize { line, .. } = fault else {
+// Why lines aren't read as sizes, with the first bad one. Where that ends in a carriage return, it is said.
+fn unread_sizes(alloc: Global, text: &[u8], fault: SizesFault) -> Fault {
+    let SizesFault::BadSize { line, part } = fault else {
         return Fault::from(fault);
     };
-    match line_of(text, line) {
-        Some(size) if ends_in_return(size) => Fault::Return {
+    let size = line_of(text, line).unwrap_or_default();
+    if ends_in_return(size) {
+        return Fault::Return {
             place: String::new(alloc),
             line: u64::from(line),
-        },
-        _ => Fault::from(fault),
+        };
+    }
+    match shown(alloc, size) {
+        Ok(text) => Fault::BadSize { line, text, part },
+        Err(_) => Fault::NoMemory,
     }
 }
 
-/// Why the sizes make no host. Where two make vCPUs of one name, the name is said.
+/// Why the sizes make no host, with the name that is at fault.
 pub(crate) fn host_fault(alloc: Global, sizes: &[Size<'_>], fault: SizesFault) -> Fault {
-    let SizesFault::SameName { vcpu } = fault else {
-        return Fault::from(fault);
-    };
+    match fault {
+        SizesFault::SameName { vcpu } => same_name(alloc, sizes, vcpu),
+        SizesFault::BadName { line } => bad_name_in(alloc, sizes, line),
+        fault => Fault::from(fault),
+    }
+}
+
+// The fault of two sizes that make vCPUs of one name, which that of this number has.
+fn same_name(alloc: Global, sizes: &[Size<'_>], vcpu: u32) -> Fault {
     match name_in_sizes(alloc, sizes, vcpu) {
         Ok(Some(name)) => match shown(alloc, &name) {
             Ok(name) => Fault::SameName { name },
             Err(_) => Fault::NoMemory,
         },
-        Ok(None) => Fault::from(fault),
+        Ok(None) => Fault::from(SizesFault::SameName { vcpu }),
         Err(fault) => Fault::from(fault),
+    }
+}
+
+// The fault of the size of this line, whose name makes no names of vCPUs.
+fn bad_name_in(alloc: Global, sizes: &[Size<'_>], line: u32) -> Fault {
+    for size in sizes {
+        if size.line == line {
+            return bad_name(alloc, size.name, line);
+        }
+    }
+    Fault::from(SizesFault::BadName { line })
+}
+
+/// The fault of this name, of the size of this line, which makes no names of vCPUs.
+pub(crate) fn bad_name(alloc: Global, name: &[u8], line: u32) -> Fault {
+    match shown(alloc, name) {
+        Ok(name) => Fault::BadName { line, name },
+        Err(_) => Fault::NoMemory,
     }
 }
 

@@ -9,9 +9,10 @@ use crate::documents::put_documents;
 use crate::earlier::{Stay, put_back, stays_of};
 use crate::enough::more_hosts;
 use crate::fleet::{Fleet, fleet_of};
-use crate::hosts::text_of;
+use crate::hosts::{bad_name, text_of};
 use crate::vms::{NamedVm, named_vms, vms_of};
 use fleet_place::{FleetHost, Group, PlaceFault, Placing, Vm, place, write_placing, write_summary};
+use sizes_doc::SizesFault;
 use std::alloc::Global;
 use tab_core::{MAX_TICK_NS, MIN_TICK_NS, TICK_NS};
 use tool_input::{Fault, finish, output_of};
@@ -62,6 +63,8 @@ pub struct PlaceWords<'w> {
     pub tick_ns: Option<u32>,
     /// The sizes; lines of standard input where there are none.
     pub sizes: Option<&'w [&'w str]>,
+    /// Whether there may be no size.
+    pub empty: bool,
 }
 
 /// Does `place`: it writes which VM goes on which host, a summary, or documents of hosts. It answers whether each VM has
@@ -71,20 +74,20 @@ pub fn place_vms(rt: &HostRuntime, words: &PlaceWords<'_>) -> Result<bool, Fault
     let fleet = fleet_of(rt, words.kinds, words.hosts, words.cores)?;
     has_host(asked.form, fleet.hosts.len())?;
     let text = text_of(rt, words.sizes)?;
-    place_sizes(rt, &asked, fleet, &text)
+    let vms = named_vms(rt.alloc(), &text, words.empty)?;
+    place_sizes(rt, &asked, fleet, &vms)
 }
 
-// Places the VMs of the sizes of a text.
+// Places the VMs of sizes.
 fn place_sizes(
     rt: &HostRuntime,
     asked: &Asked<'_>,
     fleet: Fleet<'_>,
-    text: &[u8],
+    vms: &[NamedVm<'_>],
 ) -> Result<bool, Fault>
-    requires { length text.now < 2 ^ 32 }
+    requires { length vms.now ≤ MAX_VMS }
 {
-    let vms = named_vms(rt.alloc(), text)?;
-    let placing = placing_of(rt, asked, fleet, &vms)?;
+    let placing = placing_of(rt, asked, fleet, vms)?;
     let more = more_hosts(rt.alloc(), asked.tick_ns, &placing)?;
     put(rt, asked, &placing)?;
     tell_left(rt, &placing, more);
@@ -186,9 +189,22 @@ pub(crate) fn placed<'a>(
 {
     match place(alloc, tick_ns, groups, others) {
         Ok(placing) => Ok(placing),
-        Err(PlaceFault::NoHost(fault)) => Err(Fault::from(fault)),
+        Err(PlaceFault::NoHost(fault)) => Err(vm_fault(alloc, others, fault)),
         Err(PlaceFault::NoMemory) => Err(Fault::NoMemory),
     }
+}
+
+// Why VMs make no host, with the name that is at fault.
+fn vm_fault(alloc: Global, vms: &[Vm<'_>], fault: SizesFault) -> Fault {
+    let SizesFault::BadName { line } = fault else {
+        return Fault::from(fault);
+    };
+    for vm in vms {
+        if vm.size.line == line {
+            return bad_name(alloc, vm.size.name, line);
+        }
+    }
+    Fault::from(fault)
 }
 
 // Writes what the words ask for.

@@ -3,9 +3,9 @@ ghost use Rattle.std.specs.Prelude.{◌<◌, ◌≤◌, ◌^◌, IfOk, length};
 ghost use Rattle.tab_core.specs.declared.TheConstants.{MAX_TICK_NS, MIN_TICK_NS};
 ghost use Rattle.tool_hosts.specs.declared.vms.TheConstants.{MAX_VMS};
 
-use crate::hosts::unread_sizes;
+use crate::hosts::sizes_of;
 use fleet_place::Vm;
-use sizes_doc::{Size, read_sizes};
+use sizes_doc::Size;
 use std::alloc::{AllocError, Global};
 use std::collections::BTreeMap;
 use tool_input::{Fault, shown};
@@ -36,15 +36,13 @@ impl<'a> NamedVm<'a> {
 }
 
 /// All VMs of the sizes of a text, each under its name: that of its size, with its number after it where there may be
-/// several.
-pub(crate) fn named_vms(alloc: Global, text: &[u8]) -> Result<Vec<NamedVm<'_>>, Fault>
+/// several. Without a size the text is refused, unless it may be empty.
+pub(crate) fn named_vms(alloc: Global, text: &[u8], empty: bool) -> Result<Vec<NamedVm<'_>>, Fault>
     requires { length text.now < 2 ^ 32 }
     ensures { IfOk result (λ vms. length vms.items ≤ MAX_VMS) }
 {
-    match read_sizes(alloc, text) {
-        Ok(sizes) => vms_of_sizes(alloc, &sizes),
-        Err(fault) => Err(unread_sizes(alloc, text, fault)),
-    }
+    let sizes = sizes_of(alloc, text, empty)?;
+    vms_of_sizes(alloc, &sizes)
 }
 
 // All VMs of the sizes.

@@ -1,6 +1,6 @@
 use crate::unkept::Refusal;
 use host_doc::HostFault;
-use sizes_doc::SizesFault;
+use sizes_doc::{Part, SizesFault};
 use std::alloc::{AllocError, AllocFailed};
 use std::{fmt, io};
 use tab_io::WriteFault;
@@ -63,10 +63,11 @@ pub enum Fault {
         place: String,
         fault: HostFault,
     },
-    #[error("{place}line {line} of the trace isn't TIME_NS,VCPU,STATE or TIME_NS,VCPU,STATE,CPU: '{text}'")]
+    #[error("{place}line {line} of the trace isn't TIME_NS,VCPU,STATE or TIME_NS,VCPU,STATE,CPU, since {why}: '{text}'")]
     BadTraceLine {
         place: String,
         line: u64,
+        why: &'static str,
         text: String,
     },
     #[error("{place}line {line} of the trace {why}: '{text}'")]
@@ -91,6 +92,19 @@ pub enum Fault {
     },
     #[error("{0}")]
     BadSizes(SizesFault),
+    #[error("size {line}, '{text}': {part}")]
+    BadSize {
+        line: u32,
+        text: String,
+        part: Part,
+    },
+    #[error("size {line}: '{name}' makes no names of vCPUs, which are 1 to 32 characters of a-z A-Z 0-9 _ - . with the number of the VM and the vCPU")]
+    BadName {
+        line: u32,
+        name: String,
+    },
+    #[error("no size is given: name one, as \"web 2 x 1 25% 20ms\", or give --empty for a host without VMs")]
+    NoSizes,
     #[error("two sizes make a vCPU of the name {name}: give each size a name of its own")]
     SameName {
         name: String,
@@ -221,6 +235,14 @@ pub enum Fault {
         option: &'static str,
         formats: &'static str,
     },
+    #[error("--window {text} isn't 1ms to 3600s in whole nanoseconds: write milliseconds, as 1000, or a time, as 1.5ms or 2s")]
+    BadWindow {
+        text: String,
+    },
+    #[error("--tick {text} isn't 500ns to 2002ns in whole nanoseconds: write nanoseconds, as 1000, or a time, as 1us")]
+    BadTick {
+        text: String,
+    },
     #[error("a word of the command isn't text")]
     NoText,
     #[error("the cores or vCPUs aren't of the form FIRST-LAST")]
@@ -267,6 +289,8 @@ impl Fault {
             | Fault::OtherFormat { .. }
             | Fault::TextByVcpu
             | Fault::TooNarrow
+            | Fault::BadWindow { .. }
+            | Fault::BadTick { .. }
             | Fault::OldOfRun
             | Fault::NoSuchHost { .. }
             | Fault::NoFleet

@@ -25,9 +25,14 @@ pub fn input_of(rt: &HostRuntime, path: Option<&str>) -> Result<Input, Fault> {
         None | Some("-") => read_whole(rt.alloc(), "", rt.reader()),
         Some(path) => match fs::open(rt, path) {
             Ok(file) => read_whole(rt.alloc(), path, file),
-            Err(why) => Err(unread(rt.alloc(), path, why)),
+            Err(why) => Err(unread(rt.alloc(), named(path), why)),
         },
     }
+}
+
+// The name of a file as a fault shows it: quotes for the empty one, since nothing is standard input.
+fn named(path: &str) -> &str {
+    if path.is_empty() { "''" } else { path }
 }
 
 /// Refuses two files that are both standard input: a path that is missing, or `-`.

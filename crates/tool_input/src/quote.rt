@@ -37,11 +37,34 @@ fn shown_byte(byte: u8) -> char {
 
 /// What is before a fault of the file of this path: its name, a colon and a space; nothing for standard input.
 pub fn place_of(alloc: Global, path: &str) -> Result<String, AllocError> {
-    let mut place = shown(alloc, path.as_bytes())?;
+    let mut place = shown_name(alloc, path)?;
     if !path.is_empty() {
         place.push_str(": ")?;
     }
     Ok(place)
+}
+
+// The name of a file as a fault shows it: the first 60 characters, and `..` after these, where each that is neither a letter
+// or digit of any script nor a printable character of ASCII is a question mark.
+fn shown_name(alloc: Global, name: &str) -> Result<String, AllocError> {
+    let mut text = String::new(alloc);
+    for (number, letter) in name.chars().enumerate() {
+        if number == SHOWN {
+            text.push_str("..")?;
+            return Ok(text);
+        }
+        text.push(shown_letter(letter))?;
+    }
+    Ok(text)
+}
+
+// The character, if it is a letter or digit or a printable one of ASCII, and else a question mark.
+fn shown_letter(letter: char) -> char {
+    if letter.is_alphanumeric() || (' '..='~').contains(&letter) {
+        letter
+    } else {
+        '?'
+    }
 }
 
 /// Whether a line ends in a carriage return.

@@ -1,7 +1,7 @@
 //! The trace of another host.
 
 use std::alloc::Global;
-use tool_input::{Fault, Input, ends_in_return, line_of, shown};
+use tool_input::{Fault, Input, ends_in_return, line_of, shown, trace_fault};
 use view_trace::{HostTrace, LineCause, TraceFault, read_trace};
 
 /// A host's trace, as it is drawn.
@@ -32,7 +32,7 @@ fn fault_of(alloc: Global, input: Input, fault: TraceFault) -> Fault {
     if ends_in_return(text) {
         return Fault::Return { place, line };
     }
-    let Ok(text) = shown(alloc, text) else {
+    let Ok(quote) = shown(alloc, text) else {
         return Fault::NoMemory;
     };
     match why {
@@ -40,9 +40,14 @@ fn fault_of(alloc: Global, input: Input, fault: TraceFault) -> Fault {
             place,
             line,
             why,
-            text,
+            text: quote,
         },
-        None => Fault::BadTraceLine { place, line, text },
+        None => Fault::BadTraceLine {
+            place,
+            line,
+            why: trace_fault(text).unwrap_or("it isn't whole"),
+            text: quote,
+        },
     }
 }
 

@@ -10,4 +10,4 @@ pub returns-in-None : goal.returns-in-None
 returns-in-None g c =
     let none : IsNoDocument c.args.section.now = search rules in
     tells_nothing (IsVcpuKeyText c.args.section.now c.args.vcpu c.args.key) _
-    (no_member_is_told c.args.section.now (λ members. vcpu_key_text c.args.vcpu c.args.key members) none)
+    (no_member_is_told c.args.section.now (λ members. vcpu_key_text c.args.section.now c.args.vcpu c.args.key members) none)

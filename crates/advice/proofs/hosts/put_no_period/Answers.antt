@@ -1,7 +1,7 @@
-use Rattle.std.proofs.Common.{rules, ◌≡◌, ◌≤◌, List, length, None, ℕ, Some, refl, slice_get, subst}
+use Rattle.std.proofs.Common.{rules, ◌≡◌, ◌≤◌, List, length, None, ℕ, Option, Some, refl, slice_get, subst}
 use Rattle.std.proofs.lemmas.Option.{MatchOption-at_none, MatchOption-at_some, slice_get_past, slice_get_read}
 use Rattle.tab_core.specs.declared.vcpu.Vcpu.{Vcpu}
-use Rattle.advice.specs.Advice.{IsPeriodText}
+use Rattle.advice.specs.Advice.{IsPeriodText, IsVcpuText, WhereThereIs, WritesSome}
 use Rattle.advice.proofs.AgainLemmas.{no_such_vcpu_is_told, no_vcpu_is_told}
 use Rattle.advice.proofs.WritesLemmas.{tells_nothing, tells_vcpu}
 use Rattle.advice.proofs.hosts.put_no_period.Goals as goal
@@ -35,5 +35,9 @@ returns g c =
     let at =
     subst (λ (vcpus : List Vcpu). slice_get vcpus c.args.vcpu.now ≡ Some c.in-Some-get.found.now)
     c.items.ensures.same numbered in
-    tells_vcpu c.args.section.now c.args.vcpu.now c.in-Some.host c.in-Some-get.found.now _ _ _ is_host at
-    c.put_vcpu_period.ensures
+    let wrote =
+    subst (λ (line : Option (ℕ × List ℕ)). WritesSome
+    (WhereThereIs (IsVcpuText line c.in-Some-get.found.now c.in-Some.host.tick_ns))
+    (g.K.Sink.state c.args.sink.now) (g.K.Sink.state c.put_vcpu_period.new.sink) c.put_vcpu_period.result)
+    c.latency_line-line.ensures c.put_vcpu_period.ensures in
+    tells_vcpu c.args.section.now c.args.vcpu.now c.in-Some.host c.in-Some-get.found.now _ _ _ is_host at wrote

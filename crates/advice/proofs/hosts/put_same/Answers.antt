@@ -9,4 +9,4 @@ use Rattle.advice.proofs.hosts.put_same.Goals as goal
 pub returns-in-None : goal.returns-in-None
 returns-in-None g c =
     let none : IsNoDocument c.args.section.now = search rules in
-    tells_nothing (IsSameText c.args.section.now c.args.vcpu) _ (no_member_is_told c.args.section.now (λ members. same_text members c.args.vcpu) none)
+    tells_nothing (IsSameText c.args.section.now c.args.vcpu) _ (no_member_is_told c.args.section.now (λ members. same_text c.args.section.now members c.args.vcpu) none)

@@ -1,4 +1,4 @@
-use Rattle.std.proofs.Common.{rules, ◌*◌, inl, inr, refl}
+use Rattle.std.proofs.Common.{rules, ℕ, ◌*◌, inl, inr, refl, subst}
 use Rattle.tab_core.specs.declared.TheConstants.{ROUND}
 use Rattle.tab_io.specs.Sinks.{Writes}
 use Rattle.advice.specs.Advice.{HostHasPlan, TellsOfPlan}
@@ -19,8 +19,13 @@ pub returns-else-branch : goal.returns-else-branch
 returns-else-branch g c =
     let none : ¬ (HostHasPlan c.args.host.now) = λ has.
     let no = c.if-branch.false in let yes = c.in_ok-has_plan.ensures.found.1 has in absurd cc in
-    let text = unplanned_text (due_of_tasks c.args.tasks) (c.args.host.now.cores * ROUND) in
+    let room = c.args.host.now.cores * ROUND in
+    let text = unplanned_text (due_of_tasks c.args.tasks) room in
+    let wrote : Writes {U = Unit {0}} (g.K.Sink.state c.args.sink.now) (g.K.Sink.state c.put_unplanned.new.sink)
+    (unplanned_text c.due_of-due.result room) c.put_unplanned.result = search rules in
     let writes : Writes {U = Unit {0}} (g.K.Sink.state c.args.sink.now) (g.K.Sink.state c.put_unplanned.new.sink)
-    text c.put_unplanned.result = search rules in
+    text c.put_unplanned.result = subst (λ (due : ℕ). Writes {U = Unit {0}} (g.K.Sink.state c.args.sink.now)
+    (g.K.Sink.state c.put_unplanned.new.sink) (unplanned_text due room) c.put_unplanned.result)
+    c.due_of-due.ensures wrote in
     rw c.of_sink-else-branch.ensures (writes_such (TellsOfPlan c.args.host.now c.args.tasks) text _ _ _
     (inr (none, refl)) writes)

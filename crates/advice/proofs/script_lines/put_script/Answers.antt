@@ -1,10 +1,10 @@
 use Rattle.advice.proofs.script_lines.put_script.Goals as goal
 
 pub returns-in-BadLine : goal.returns-in-BadLine
-returns-in-BadLine g c = rw c.in-BadLine.is c.put_script_line.ensures
+returns-in-BadLine g c = rw c.in-BadLine.is c.put_bad_line.ensures
 
 pub returns-in-UnknownName : goal.returns-in-UnknownName
-returns-in-UnknownName g c = rw c.in-UnknownName.is c.put_script_line-in-UnknownName.ensures
+returns-in-UnknownName g c = rw c.in-UnknownName.is c.put_script_line.ensures
 
 pub returns-in-OutOfOrder : goal.returns-in-OutOfOrder
 returns-in-OutOfOrder g c = rw c.in-OutOfOrder.is c.put_script_line-in-OutOfOrder.ensures

@@ -11,14 +11,14 @@ returns-in_default-clause-number c = λ whole. c.in_default.ensures (digit_below
 
 pub overflow_mul-number : goal.overflow_mul-number
 overflow_mul-number c =
-    let few : length (take c.loop-byte.byte-index c.args.bytes.now) ≤ 4 =
+    let few : length (take c.loop-byte.byte-index c.args.bytes.now) ≤ 9 =
     omega (arith, c.requires, length-take c.loop-byte.byte-index c.args.bytes.now) in
     let low = short_value (take c.loop-byte.byte-index c.args.bytes.now) c.loop-byte.invariant.digits few in
     omega (arith, low, c.loop-byte.invariant.value)
 
 pub overflow_add-number : goal.overflow_add-number
 overflow_add-number c =
-    let few : length (take c.loop-byte.byte-index c.args.bytes.now) ≤ 4 =
+    let few : length (take c.loop-byte.byte-index c.args.bytes.now) ≤ 9 =
     omega (arith, c.requires, length-take c.loop-byte.byte-index c.args.bytes.now) in
     let low = short_value (take c.loop-byte.byte-index c.args.bytes.now) c.loop-byte.invariant.digits few in
     omega (arith, low, c.loop-byte.invariant.value, c.in-Some.ensures)
