@@ -12,6 +12,7 @@ mod output;
 mod plan;
 mod planned;
 mod quote;
+mod run;
 mod unkept;
 mod verdict;
 
@@ -22,5 +23,6 @@ pub use output::{finish, output_of};
 pub use plan::{drawable, host_of, plan_of, view_in, view_of};
 pub use planned::{Planned, planned_in, planned_of, refusal_in, shown_of, tick_of};
 pub use quote::{ends_in_return, line_of, place_of, shown, shown_whole};
+pub use run::{last_part, report_in, run_tick};
 pub use unkept::Refusal;
 pub use verdict::{Verdict, put_verdict, refusal_of, verdict_of};
