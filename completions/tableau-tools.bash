@@ -43,7 +43,7 @@ _tableau_tools() {
               diff,0) files=yes ;;
               diff,1) files=yes ;;
               report,0) files=yes ;;
-              export,0) words='csv chrome json rtds deadline cgroup libvirt scx' ;;
+              export,0) words='csv chrome json rtds deadline cgroup libvirt scx judge' ;;
               export,1) files=yes ;;
               judge,0) files=yes ;;
               judge,1) files=yes ;;

@@ -42,7 +42,7 @@ complete -c tableau-tools -n '__tableau_tools_at export' -l first-cpu -x -d 'In 
 complete -c tableau-tools -n '__tableau_tools_at export' -l full -d 'With deadline, all of a core, and not 95 percent: the lines tell the kernel so'
 complete -c tableau-tools -n '__tableau_tools_at export' -l map -r -F -d 'In lines for a scheduler, a file of lines NAME GUEST N for vCPUs whose names aren\'t GUEST.N'
 complete -c tableau-tools -n '__tableau_tools_at export' -l help -d 'Print help'
-complete -c tableau-tools -n '__tableau_tools_at export; and not __fish_seen_subcommand_from csv chrome json rtds deadline cgroup libvirt scx' -f -a 'csv chrome json rtds deadline cgroup libvirt scx'
+complete -c tableau-tools -n '__tableau_tools_at export; and not __fish_seen_subcommand_from csv chrome json rtds deadline cgroup libvirt scx judge' -f -a 'csv chrome json rtds deadline cgroup libvirt scx judge'
 complete -c tableau-tools -n '__tableau_tools_at judge' -l window -x -d 'The running and waiting in each window in which shares are counted: milliseconds, or a time as 1.5s'
 complete -c tableau-tools -n '__tableau_tools_at judge' -l plan -r -F -d 'Judges shares by this plan of the host, which owes the cost of each whole period that a window holds'
 complete -c tableau-tools -n '__tableau_tools_at judge' -l json -d 'One JSON object, for programs'

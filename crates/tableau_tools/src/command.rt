@@ -239,10 +239,10 @@ const EXPORT: Entry = Entry {
         Word {
             name: "FORMAT",
             kind: Kind::Value(ValueParser::Names(&[
-                "csv", "chrome", "json", "rtds", "deadline", "cgroup", "libvirt", "scx",
+                "csv", "chrome", "json", "rtds", "deadline", "cgroup", "libvirt", "scx", "judge",
             ])),
             is_required: true,
-            help: "The text to write: comma-separated values, trace events, JSON; lines for Xen's RTDS, for Linux's deadline tasks or cgroups, or for libvirt; the tables for Linux's sched_ext",
+            help: "The text to write: comma-separated values, trace events, JSON; lines for Xen's RTDS, for Linux's deadline tasks or cgroups, or for libvirt; the tables for Linux's sched_ext; a run's trace for judge",
             ..VALUE
         },
         FILE,

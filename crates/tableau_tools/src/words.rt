@@ -7,6 +7,7 @@ use tab_core::{MAX_TICK_NS, MIN_TICK_NS};
 use tool_hosts::{JudgeWords, LineForm, LineWords, PlaceWords, SizeWords, export_lines};
 use tool_input::{Fault, shown};
 use tool_kernel::export_tables;
+use tool_traces::{RunWords, export_run};
 use tool_views::{
     ChartWords, DiffWords, ExportWords, Form, Format, TableWords, export_view, form_of,
 };
@@ -86,6 +87,7 @@ pub(crate) fn export(rt: &HostRuntime, matches: &ArgMatches<'_>) -> Result<(), F
         Some("cgroup") => export_lines(rt, &line_words(matches, LineForm::Cgroup)),
         Some("libvirt") => export_lines(rt, &line_words(matches, LineForm::Libvirt)),
         Some("scx") => export_tables(rt, matches.get_str("FILE")),
+        Some("judge") => export_run(rt, &run_words(matches)),
         Some("chrome") => export_view(rt, &export_words(matches, Format::Chrome)),
         Some("json") => export_view(rt, &export_words(matches, Format::Json)),
         _ => export_view(rt, &export_words(matches, Format::Csv)),
@@ -94,7 +96,8 @@ pub(crate) fn export(rt: &HostRuntime, matches: &ArgMatches<'_>) -> Result<(), F
 
 // Refuses an option that says nothing of the format.
 fn suits_format(matches: &ArgMatches<'_>, format: &str) -> Result<(), Fault> {
-    let is_whole = format == "csv" || format == "chrome" || format == "json" || format == "scx";
+    let has_times = format == "chrome" || format == "json" || format == "judge";
+    let is_whole = has_times || format == "csv" || format == "scx";
     if matches.get_flag("full") && format != "deadline" {
         return other_format("--full", "deadline");
     }
@@ -104,9 +107,8 @@ fn suits_format(matches: &ArgMatches<'_>, format: &str) -> Result<(), Fault> {
     if matches.get_str("map").is_some() && is_whole {
         return other_format("--map", "rtds, deadline, cgroup and libvirt");
     }
-    let has_times = format == "chrome" || format == "json";
     if matches.get_str("tick").is_some() && !has_times {
-        return other_format("--tick", "chrome and json");
+        return other_format("--tick", "chrome, json and judge");
     }
     Ok(())
 }
@@ -130,6 +132,14 @@ fn line_words<'w>(matches: &'w ArgMatches<'_>, form: LineForm) -> LineWords<'w> 
 fn export_words<'w>(matches: &'w ArgMatches<'_>, format: Format) -> ExportWords<'w> {
     ExportWords {
         format,
+        file: matches.get_str("FILE"),
+        tick_ns: tick_ns(matches),
+    }
+}
+
+// The words of `export` for the judge.
+fn run_words<'w>(matches: &'w ArgMatches<'_>) -> RunWords<'w> {
+    RunWords {
         file: matches.get_str("FILE"),
         tick_ns: tick_ns(matches),
     }

@@ -1,7 +1,7 @@
 use Rattle.std.proofs.Common.{◌≡◌, ◌-◌, [], slice_index_or, arith}
 use Rattle.tab_words.specs.Sections.{sections_of}
 use Rattle.tab_words.proofs.SectionSizeLemmas.{section_size}
-use Rattle.tool_views.proofs.ran.last_part.Goals as goal
+use Rattle.tool_input.proofs.run.last_part.Goals as goal
 
 pub returns-in_default : goal.returns-in_default
 returns-in_default c =
