@@ -10,7 +10,7 @@ use Rattle.crew_turns.specs.declared.player.Player.{Player}
 use Rattle.live_plan.specs.declared.maker.Maker.{Maker}
 use Rattle.live_plan.specs.Actors.{LiveActorView, LiveAgrees}
 use Rattle.live_plan.specs.Books.{LiveView}
-use Rattle.live_plan.specs.Inside.Cells.{IsCellShelfOf, cell_state}
+use Rattle.live_plan.specs.Inside.Cells.{IsCellShelfOf}
 use Rattle.live_plan.specs.Planners.{IsPlannerOf, PlannerView}
 use Rattle.live_plan.specs.Players.{LeadView, MemberView}
 
@@ -57,7 +57,7 @@ pub record IsMemberOf (b : LiveView) (rounds c : ℕ) (m : MemberView) : Type 0 
 pub record IsMakerOf (b : LiveView) (maker : Maker) : Type 0 where
   pub planner : IsPlannerOf b maker.planner
   pub shelf : IsCellShelfOf b maker.shelf
-  pub puts : (cell_state maker.shelf).puts ≡ maker.planner.next
+  pub puts : maker.shelf.puts ≡ maker.planner.next
   pub some : maker.planner.stopped ≡ true → 0 < maker.planner.next
 
 -- the crew was made of the book, with an actor for each of its cores, for a run that has all its events

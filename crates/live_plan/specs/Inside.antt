@@ -1,5 +1,5 @@
--- What the code keeps on its way. Clauses of `run_live` and of the shelves and definitions of `Crews` cite it, and no
--- clause of the top call rests on it.
+-- What the code keeps on its way. Clauses of `run_live`, the shelves and the planner and definitions of `Crews` and
+-- `Planners` cite it, and no clause of the top call rests on it.
 pub mod Cells
 pub mod Crewing
 pub mod Finishing

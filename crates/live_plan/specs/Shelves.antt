@@ -1,17 +1,14 @@
--- What a shelf knows of the made values of a book, and what its calls do to that.
+-- What a shelf knows of the made values of a book, and what a look does to that.
 -- Source: the rules of this project.
-use Rattle.std.specs.Prelude.{◌≡◌, ℕ, ◌+◌, ◌≤◌, Bool, Option, None, Some}
+use Rattle.std.specs.Prelude.{◌≡◌, ℕ, ◌≤◌, Bool, Option, None, Some}
 use Rattle.tab_io.specs.FaultCounts.{Rose}
 use Rattle.live_plan.specs.Finding.{is_stopped}
 use Rattle.live_plan.specs.Mades.{MadeView}
 
--- the value that it knows of each change, how often a look at each missed, how many values it was handed, and
--- whether the last of these is out of memory
+-- the value that it knows of each change, and how often a look at each missed
 pub record ShelfView : Type 0 where
   pub known : ℕ → Option MadeView
   pub misses : ℕ → ℕ
-  pub puts : ℕ
-  pub stopped : Bool
 
 -- the shelf knows a value for the change, which is out of memory or isn't
 pub record Knows (s : ShelfView) (change : ℕ) (stopped : Bool) : Type 0 where
@@ -23,18 +20,9 @@ pub record Knows (s : ShelfView) (change : ℕ) (stopped : Bool) : Type 0 where
 pub record Grows (s t : ShelfView) : Type 0 where
   pub known : (c : ℕ) (m : MadeView) → s.known c ≡ Some m → t.known c ≡ Some m
   pub misses : (c : ℕ) → s.misses c ≤ t.misses c
-  pub puts : t.puts ≡ s.puts
-  pub stopped : t.stopped ≡ s.stopped
 
 -- a look at the change missed: it wasn't known and isn't, and its misses rose
 pub record Missed (s t : ShelfView) (change : ℕ) : Type 0 where
   pub before : s.known change ≡ None
   pub after : t.known change ≡ None
   pub rose : Rose (s.misses change) (t.misses change)
-
--- the shelf was handed a value: its count of puts rose by one, and nothing else changed
-pub record Puts (s : ShelfView) (m : MadeView) (t : ShelfView) : Type 0 where
-  pub known : (c : ℕ) → t.known c ≡ s.known c
-  pub misses : (c : ℕ) → t.misses c ≡ s.misses c
-  pub puts : t.puts ≡ s.puts + 1
-  pub stopped : t.stopped ≡ is_stopped m.found

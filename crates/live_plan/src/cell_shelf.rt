@@ -1,6 +1,6 @@
 ghost use Rattle.std.specs.Prelude.{◌≡◌, ◌<◌, ℕ, IfNone, IfSome, None, Some, false, length, true};
 ghost use Rattle.live_plan.specs.Books.{IsLive, IsMadeFor};
-ghost use Rattle.live_plan.specs.Inside.Cells.{IsCellShelfOf, IsNewSlot, IsSlotOf, LooksIn, MissedIn, cell_state, known_in};
+ghost use Rattle.live_plan.specs.Inside.Cells.{IsCellShelfOf, IsNewSlot, IsSlotOf, LooksIn, MissedIn, Puts, Reaches, cell_state, known_in};
 
 use crate::book::LiveBook;
 use crate::made::Made;
@@ -31,7 +31,7 @@ impl CellShelf {
         ensures book { IsCellShelfOf book.now result }
         ensures known { (c : ℕ) → (cell_state result).known c ≡ None }
         ensures misses { (c : ℕ) → (cell_state result).misses c ≡ 0 }
-        ensures puts { (cell_state result).puts ≡ 0 }
+        ensures puts { result.puts ≡ 0 }
     {
         CellShelf {
             slots: [
@@ -53,6 +53,29 @@ impl CellShelf {
             ],
             puts: 0,
             stopped: false,
+        }
+    }
+
+    // Takes the value of the change whose number is the count of puts, and says whether it is the first in that change's
+    // cell, where each actor finds it from now on. Else the cell keeps what it holds.
+    pub(crate) fn put(&mut self, book: &LiveBook, made: Box<Made>) -> bool
+        requires book { IsCellShelfOf book.now self.old }
+        requires change { self.old.puts < length book.now.changes }
+        requires value { IsMadeFor book.now self.old.puts made.value }
+        ensures book { IsCellShelfOf book.now self.new }
+        ensures puts { Puts self.old made.value result self.new }
+    {
+        let change = self.puts;
+        let at = change as usize;
+        self.stopped = made.found().is_stopped();
+        self.puts += 1;
+        match self.slots[at].take() {
+            Some(mut slot) => {
+                let first = put_in(&mut slot, book, change, made);
+                self.slots[at] = Some(slot);
+                first
+            }
+            None => unreachable!(),
         }
     }
 }
@@ -89,14 +112,6 @@ impl<'a> Shelf<'a> for CellShelf {
             None => unreachable!(),
         }
     }
-
-    fn put(&mut self, book: &'a LiveBook, made: Box<Made>) {
-        let change = self.puts;
-        self.stopped = made.found().is_stopped();
-        self.puts += 1;
-        let mut note = book.cell(change).note();
-        let _ = book.cell(change).get_or_init_as(move || made, &mut note);
-    }
 }
 
 // What is in the change's cell, where that is for the change.
@@ -122,6 +137,26 @@ fn look_in<'a>(slot: &mut Slot, book: &'a LiveBook, change: u32) -> Option<&'a M
             slot.missed = slot.missed.saturating_add(1);
             None
         }
+    }
+}
+
+// Puts the value into the change's cell if nothing is there, and says whether it did.
+#[tactic(auto, using(crate::proofs::CellsLemmas::first_slot, crate::proofs::CellsLemmas::later_slot, crate::proofs::CellsLemmas::first_looks, crate::proofs::CellsLemmas::later_looks))]
+fn put_in(slot: &mut Slot, book: &LiveBook, change: u32, made: Box<Made>) -> bool
+    requires change { change < length book.now.changes }
+    requires slot { IsSlotOf book.now change slot.old }
+    requires value { IsMadeFor book.now change made.value }
+    ensures slot { IsSlotOf book.now change slot.new }
+    ensures looks { LooksIn slot.old slot.new }
+    ensures missed { slot.new.missed ≡ slot.old.missed }
+    ensures reaches { Reaches (Some slot.new) made.value result }
+{
+    match book.cell(change).set_as(made, &mut slot.note) {
+        Ok(()) => {
+            slot.matches = true;
+            return true;
+        }
+        Err(_) => return false,
     }
 }
 

@@ -13,8 +13,6 @@ pub struct ListShelf<'a> {
     pub(crate) made: &'a [Option<Made>],
     pub(crate) looked: [bool; 15],
     pub(crate) missed: [u64; 15],
-    pub(crate) puts: u32,
-    pub(crate) stopped: bool,
 }
 
 impl<'a> ListShelf<'a> {
@@ -25,15 +23,12 @@ impl<'a> ListShelf<'a> {
         ensures made { result.made.now ≡ made.now }
         ensures looked { (c : ℕ) → slice_index_or result.looked c false ≡ false }
         ensures missed { (c : ℕ) → slice_index result.missed c ≡ 0 }
-        ensures puts { result.puts ≡ 0 }
     {
         let _ = book;
         ListShelf {
             made,
             looked: [false; 15],
             missed: [0; 15],
-            puts: 0,
-            stopped: false,
         }
     }
 }
@@ -68,10 +63,5 @@ impl<'a> Shelf<'a> for ListShelf<'a> {
                 None
             }
         }
-    }
-
-    fn put(&mut self, _book: &'a LiveBook, made: Box<Made>) {
-        self.puts += 1;
-        self.stopped = made.found().is_stopped();
     }
 }

@@ -1,9 +1,10 @@
 ghost use Rattle.std.specs.Prelude.{◌≡◌, IfOk, false};
+ghost use Rattle.live_plan.specs.Inside.Cells.{IsCellShelfOf};
 ghost use Rattle.live_plan.specs.Planners.{IsPlannerOf, PlannerTold};
 
 use crate::book::LiveBook;
+use crate::cell_shelf::CellShelf;
 use crate::made::Made;
-use crate::shelf::Shelf;
 use std::alloc::Global;
 use std::marker::Model;
 use tab_core::{Host, NoMemory};
@@ -75,25 +76,26 @@ impl LivePlanner {
     }
 }
 
-/// One step of the planner: it plans the next change, and puts what it found.
+/// One step of the planner: it plans the next change, and puts what it found into that change's cell.
 ///
-/// The planner and the shelf are of the book, and the shelf was handed the values of the changes before.
+/// The planner and the shelf are of the book, and the shelf was handed the values of the changes before. After it
+/// the cells of all planned changes are full.
+///
 /// `Stopped` comes exactly where the value that was put is out of memory, and `Told` exactly where it isn't.
 /// `Finished` comes exactly where all changes were reported or one stopped.
-pub fn planner_step<'a, H: Shelf<'a>>(
+pub fn planner_step(
     alloc: Global,
-    book: &'a LiveBook,
+    book: &LiveBook,
     planner: &mut LivePlanner,
-    shelf: &mut H,
+    shelf: &mut CellShelf,
 ) -> PlannerAnswer
     requires planner { IsPlannerOf book.now planner.old }
-    requires shelf { H.is_of shelf.old book.now }
-    requires puts { (H.state shelf.old).puts ≡ planner.old.next }
+    requires shelf { IsCellShelfOf book.now shelf.old }
+    requires puts { shelf.old.puts ≡ planner.old.next }
     ensures planner { IsPlannerOf book.now planner.new }
-    ensures shelf { H.is_of shelf.new book.now }
-    ensures puts { (H.state shelf.new).puts ≡ planner.new.next }
-    ensures told { PlannerTold book.now planner.old (H.state shelf.old) result planner.new
-        (H.state shelf.new) }
+    ensures shelf { IsCellShelfOf book.now shelf.new }
+    ensures puts { shelf.new.puts ≡ planner.new.next }
+    ensures told { PlannerTold book.now planner.old shelf.old result planner.new shelf.new }
 {
     if planner.stopped {
         return PlannerAnswer::Finished;
@@ -104,7 +106,7 @@ pub fn planner_step<'a, H: Shelf<'a>>(
             let change = planner.next;
             made.fill_from(alloc, &mut planner.standing);
             let stopped = made.found().is_stopped();
-            shelf.put(book, made);
+            let _ = shelf.put(book, made);
             planner.next = change + 1;
             planner.stopped = stopped;
             if stopped {

@@ -1,14 +1,13 @@
 ghost use Rattle.std.specs.Prelude.{◌≡◌, ◌<◌, IfNone, IfSome, Some, length};
 ghost use Rattle.live_plan.specs.Books.{IsMadeFor, LiveView};
-ghost use Rattle.live_plan.specs.Shelves.{Grows, Missed, Puts, ShelfView};
+ghost use Rattle.live_plan.specs.Shelves.{Grows, Missed, ShelfView};
 
 use crate::book::LiveBook;
 use crate::made::Made;
 
-/// Where an actor of a run looks what was made of a change, and where its planner puts that.
+/// Where an actor of a run looks what was made of a change.
 pub trait Shelf<'a> {
-    /// What it knows of each change, how often a look at each missed, how many values it was handed, and
-    /// whether the last of these is out of memory.
+    /// What it knows of each change, and how often a look at each missed.
     ghost state: { Self → ShelfView };
     /// It is a shelf of this book.
     ghost is_of: { Self → LiveView → Type 0 };
@@ -23,12 +22,4 @@ pub trait Shelf<'a> {
         ensures found { IfSome result (λ made. (state self.new).known change ≡ Some made.now) }
         ensures for_it { IfSome result (λ made. IsMadeFor book.now change made.now) }
         ensures missed { IfNone result (Missed (state self.old) (state self.new) change) };
-
-    /// Takes the value of the change whose number is the count of puts.
-    fn put(&mut self, book: &'a LiveBook, made: Box<Made>)
-        requires book { is_of self.old book.now }
-        requires change { (state self.old).puts < length book.now.changes }
-        requires value { IsMadeFor book.now (state self.old).puts made.value }
-        ensures book { is_of self.new book.now }
-        ensures puts { Puts (state self.old) made.value (state self.new) };
 }

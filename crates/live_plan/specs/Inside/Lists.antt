@@ -16,8 +16,6 @@ abbrev pub list_state : ListShelf → ShelfView
 list_state shelf = record {
   known = λ c. seen_at (slice_index_or shelf.looked c true) (slice_index_or shelf.made.now c None);
   misses = λ c. slice_index shelf.missed c;
-  puts = shelf.puts;
-  stopped = shelf.stopped;
 }
 
 -- there is a place for each change of the book, and each value is for the change that its place names

@@ -33,4 +33,4 @@ returns-clause-book c =
     ∙ ap Some (sym c.take.ensures.value ∙ c.in-Some.is) in
     subst (λ (slots : List (Option Slot)). IsCellShelfOf b (record shelf { slots = slots }))
     (sym (set_twice shelf.slots c.args.change _ (Some new)))
-    (still_of_book b shelf c.args.change c.in-Some.slot new of at c.look_in-found.ensures.slot)
+    (still_of_book b shelf c.args.change c.in-Some.slot new of at c.look_in-found.ensures.slot c.look_in-found.ensures.looks.seen)
