@@ -6,7 +6,7 @@ _tableau_tools() {
   # how many arguments are before the word
   for ((at = 2; at < COMP_CWORD; at++)); do
     case $command,${COMP_WORDS[at]} in
-      table,--by | table,--tick | chart,--by | chart,--cores | chart,--vcpus | chart,--from | chart,--to | chart,--width | chart,--tick | diff,--by | diff,--tick | report,--old | export,--tick | export,--first-cpu | export,--map | judge,--window | judge,--plan | host,--cores | host,--tick | fit,--cores | fit,--tick | place,--hosts | place,--cores | place,--kinds | place,--stay | place,--host | place,--tick) ((at++)) ;;
+      table,--by | table,--tick | chart,--by | chart,--cores | chart,--vcpus | chart,--from | chart,--to | chart,--width | chart,--tick | diff,--by | diff,--tick | report,--old | export,--tick | export,--first-cpu | export,--cpus | export,--map | judge,--window | judge,--plan | host,--cores | host,--tick | fit,--cores | fit,--tick | place,--hosts | place,--cores | place,--kinds | place,--stay | place,--host | place,--tick) ((at++)) ;;
       *,-?*) ;;
       *) ((place++)) ;;
     esac
@@ -23,19 +23,19 @@ _tableau_tools() {
       judge,--plan) files=yes ;;
       place,--kinds) files=yes ;;
       place,--stay) files=yes ;;
-      table,--tick | chart,--cores | chart,--vcpus | chart,--from | chart,--to | chart,--width | chart,--tick | diff,--tick | export,--tick | export,--first-cpu | judge,--window | host,--cores | host,--tick | fit,--cores | fit,--tick | place,--hosts | place,--cores | place,--host | place,--tick) ;;
+      table,--tick | chart,--cores | chart,--vcpus | chart,--from | chart,--to | chart,--width | chart,--tick | diff,--tick | export,--tick | export,--first-cpu | export,--cpus | judge,--window | host,--cores | host,--tick | fit,--cores | fit,--tick | place,--hosts | place,--cores | place,--host | place,--tick) ;;
       *)
         case $command,$word in
           table,-*) words='--by --json --csv --tick --help' ;;
           chart,-*) words='--text --by --cores --vcpus --from --to --width --tick --help' ;;
           diff,-*) words='--by --json --csv --tick --help' ;;
           report,-*) words='--old --help' ;;
-          export,-*) words='--tick --first-cpu --full --map --help' ;;
+          export,-*) words='--tick --first-cpu --cpus --full --map --help' ;;
           judge,-*) words='--window --plan --json --help' ;;
           sections,-*) words='--help' ;;
           host,-*) words='--cores --tick --empty --help' ;;
-          fit,-*) words='--cores --tick --empty --help' ;;
-          place,-*) words='--hosts --cores --kinds --stay --host --documents --summary --tick --empty --help' ;;
+          fit,-*) words='--cores --tick --no-split --empty --help' ;;
+          place,-*) words='--hosts --cores --kinds --stay --host --documents --summary --spread --no-split --tick --empty --help' ;;
           *)
             case $command,$place in
               table,0) files=yes ;;

@@ -1,5 +1,5 @@
 -- Whether the planner accepts a host, and that its answer depends on no name.
-use Rattle.std.proofs.Common.{◌≡◌, ◌==◌, ℕ, Bool, true, arith, length, List, [], ◌∷◌, ◌++◌, map, append-nil, Option, Some, refl, sym, ap, subst, ◌∙◌}
+use Rattle.std.proofs.Common.{◌≡◌, ◌==◌, ℕ, ◌≤◌, Bool, false, true, arith, length, List, [], ◌∷◌, ◌++◌, map, append-nil, Option, Some, refl, sym, ap, subst, ◌∙◌}
 use Rattle.std.proofs.lemmas.Bool.{eqb-true}
 use Rattle.std.proofs.lemmas.List.Concat.{flat_map-cons}
 use Rattle.std.specs.List.{flat_map, range_with_len}
@@ -19,9 +19,10 @@ use Rattle.worst_fit.proofs.OnePlacement.{placement_unique}
 use Rattle.plan_make.specs.Planned.{IsFirstWithoutRoom}
 use Rattle.sizes_doc.specs.SizedHost.{IsHostOfSizes, machine_vcpus, size_vcpus, sized_vcpu, sizes_vcpus}
 use Rattle.sizes_doc.specs.declared.size.Size.{Size}
-use Rattle.size_fit.specs.Fits.{HasNoPlan, NoPeriod, NoRoom}
+use Rattle.size_fit.specs.Fits.{AreSplit, HasNoPlan, HasNoRoom, NoPeriod, NoRoom, Split, Unplanned}
 use Rattle.fleet_place.specs.Fits.{IsHostRefused, IsLike}
 use Rattle.fleet_place.specs.Inside.Memory.{IsAlike}
+use Rattle.fleet_place.specs.declared.policy.Policy.{Policy}
 
 -- nothing is not a list with an element
 never : (xs : List ℕ) (x : ℕ) (ys : List ℕ) → [] ≡ xs ++ x ∷ ys → ⊥
@@ -35,6 +36,14 @@ none_there (x ∷ xs) left empty is found equal =
     let none : length (x ∷ xs) ≡ 0 = eqb-true (length (x ∷ xs)) 0 (sym is ∙ found) in
     absurd (omega (arith, none))
 
+-- a list that is found not to be empty
+pub some_there : (xs left : List ℕ) (empty : Bool) → empty ≡ (length xs == 0) → empty ≡ false → xs ≡ left
+    → 1 ≤ length left
+some_there [] left empty is found equal =
+    let both : false ≡ true = sym found ∙ is in
+    absurd cc
+some_there (x ∷ xs) left empty is found equal = omega (arith, ap length equal)
+
 -- where worst fit leaves no vCPU over, planning isn't refused
 pub accepted_whole : (host : Host) (tasks : List (Option Periodic)) (placed : Placed) → AreTasksOf host tasks
     → IsPlacement tasks host.cores placed → placed.left ≡ [] → HasNoPlan host → ⊥
@@ -46,6 +55,32 @@ accepted_whole host tasks placed are placement none (NoRoom vcpu rest over stuck
     let one = placement_unique [] tasks host.cores stuck.placed placed moved placement in
     never stuck.stuck.before vcpu stuck.stuck.after
     (sym none ∙ sym (ap (λ (p : Placed). p.left) one) ∙ stuck.stuck.left_is)
+
+-- the vCPUs that a plan splits are those that were left over
+pub split_are_left : (host : Host) (tasks : List (Option Periodic)) (placed : Placed) (vcpus : List ℕ)
+    → AreTasksOf host tasks → IsPlacement tasks host.cores placed → AreSplit host vcpus → vcpus ≡ placed.left
+split_are_left host tasks placed vcpus are placement split =
+    let same = tasks_unique host split.tasks tasks split.tasks_are are in
+    let moved : IsPlacement tasks host.cores split.placed =
+    subst (λ ts. IsPlacement ts host.cores split.placed) same split.placement in
+    let one = placement_unique [] tasks host.cores split.placed placed moved placement in
+    sym split.left ∙ ap (λ (p : Placed). p.left) one
+
+-- where worst fit leaves no vCPU over, there is room, also if no vCPU may be split
+pub room_whole : (no_split : Bool) (host : Host) (tasks : List (Option Periodic)) (placed : Placed)
+    → AreTasksOf host tasks → IsPlacement tasks host.cores placed → placed.left ≡ [] → HasNoRoom no_split host → ⊥
+room_whole no_split host tasks placed are placement none (Unplanned why) =
+    accepted_whole host tasks placed are placement none why
+room_whole no_split host tasks placed are placement none (Split vcpus whole split some) =
+    let gone : length vcpus ≡ 0 = ap length (split_are_left host tasks placed vcpus are placement split ∙ none) in
+    absurd (omega (arith, gone, some))
+
+-- where vCPUs may be split, a host without room has no plan
+pub no_plan : (no_split : Bool) (host : Host) → no_split ≡ false → HasNoRoom no_split host → HasNoPlan host
+no_plan no_split host may (Unplanned why) = why
+no_plan no_split host may (Split vcpus whole split some) =
+    let both : true ≡ false = sym whole ∙ may in
+    absurd cc
 
 -- planning is not refused either where it finds neither a first vCPU without room nor one without period
 pub accepted_by : (host : Host) (tasks : List (Option Periodic)) → AreTasksOf host tasks
@@ -107,9 +142,9 @@ asked_beside sizes size =
     ∙ asked_machines size (range_with_len 0 size.machines)))
 
 -- a size is refused where one that is alike was refused beside the same sizes
-pub refused_alike : (tick cores : ℕ) (sizes : List Size) (one other : Size) → IsAlike one other
-    → IsHostRefused tick cores (sizes ++ one ∷ []) → IsHostRefused tick cores (sizes ++ other ∷ [])
-refused_alike tick cores sizes one other alike was = record {
+pub refused_alike : (policy : Policy) (cores : ℕ) (sizes : List Size) (one other : Size) → IsAlike one other
+    → IsHostRefused policy cores (sizes ++ one ∷ []) → IsHostRefused policy cores (sizes ++ other ∷ [])
+refused_alike policy cores sizes one other alike was = record {
   host = was.host;
   is = record {
     tick_ns = was.is.tick_ns;

@@ -7,6 +7,7 @@ use Rattle.std.proofs.lemmas.List.Elements.{All-cons, All-head, All-tail}
 use Rattle.std.proofs.lemmas.List.Sorted.{IsPermutation-append, IsPermutation-append_comm, IsPermutation-refl, IsPermutation-trans}
 use Rattle.fleet_place.specs.Deals.{Deal, Joined, LeftOver, NoVm, with_vm}
 use Rattle.fleet_place.specs.Held.{Held, all_held}
+use Rattle.fleet_place.specs.declared.policy.Policy.{Policy}
 use Rattle.fleet_place.specs.declared.vm.Vm.{Vm}
 use Rattle.fleet_place.proofs.StayLemmas.{FitsItself, held_cores, held_vms}
 
@@ -35,11 +36,11 @@ held_more (h ∷ hs) (suc n) held vm at =
     rw (before, after) (IsPermutation-append h.vms h.vms _ _ (IsPermutation-refl h.vms) (held_more hs n held vm at))
 
 -- each VM that is dealt comes to a host or is left over
-pub deal_keeps : (tick : ℕ) (start : List Held) (order : List Vm) (hosts : List Held) (left : List Vm)
-    → Deal tick start order hosts left → IsPermutation (all_held start ++ order) (all_held hosts ++ left)
-deal_keeps tick start [] _ [] NoVm = IsPermutation-refl (all_held start ++ [])
-deal_keeps tick start _ _ _ (Joined order left hosts vm number held before is) =
-    let rec = deal_keeps tick start order hosts left before in
+pub deal_keeps : (policy : Policy) (start : List Held) (order : List Vm) (hosts : List Held) (left : List Vm)
+    → Deal policy start order hosts left → IsPermutation (all_held start ++ order) (all_held hosts ++ left)
+deal_keeps policy start [] _ [] NoVm = IsPermutation-refl (all_held start ++ [])
+deal_keeps policy start _ _ _ (Joined order left hosts vm number held before is) =
+    let rec = deal_keeps policy start order hosts left before in
     let was : all_held start ++ (order ++ vm ∷ []) ≡ (all_held start ++ order) ++ vm ∷ [] =
     sym (append_assoc (all_held start) order (vm ∷ [])) in
     let moved : IsPermutation ((all_held hosts ++ left) ++ vm ∷ []) ((all_held hosts ++ vm ∷ []) ++ left) =
@@ -51,8 +52,8 @@ deal_keeps tick start _ _ _ (Joined order left hosts vm number held before is) =
     (IsPermutation-trans _ _ _ moved
     (IsPermutation-append (all_held hosts ++ vm ∷ []) (all_held (set hosts number (with_vm held vm))) left left
     (held_more hosts number held vm is.at) (IsPermutation-refl left))))
-deal_keeps tick start _ _ _ (LeftOver order left hosts vm before none) =
-    let rec = deal_keeps tick start order hosts left before in
+deal_keeps policy start _ _ _ (LeftOver order left hosts vm before none) =
+    let rec = deal_keeps policy start order hosts left before in
     rw (sym (append_assoc (all_held start) order (vm ∷ [])), sym (append_assoc (all_held hosts) left (vm ∷ [])))
     (IsPermutation-append (all_held start ++ order) (all_held hosts ++ left) (vm ∷ []) (vm ∷ []) rec (IsPermutation-refl (vm ∷ [])))
 
@@ -65,14 +66,14 @@ all_set P (h ∷ hs) (suc n) held all one =
     All-cons P h (set hs n held) (All-head P h hs all) (all_set P hs n held (All-tail P h hs all) one)
 
 -- the VMs of each host fit it
-pub deal_fits : (tick : ℕ) (start : List Held) (order : List Vm) (hosts : List Held) (left : List Vm)
-    → Deal tick start order hosts left → All (FitsItself tick) start → All (FitsItself tick) hosts
-deal_fits tick start [] _ [] NoVm all = all
-deal_fits tick start _ _ _ (Joined order left hosts vm number held before is) all =
-    all_set (FitsItself tick) hosts number (with_vm held vm) (deal_fits tick start order hosts left before all)
+pub deal_fits : (policy : Policy) (start : List Held) (order : List Vm) (hosts : List Held) (left : List Vm)
+    → Deal policy start order hosts left → All (FitsItself policy) start → All (FitsItself policy) hosts
+deal_fits policy start [] _ [] NoVm all = all
+deal_fits policy start _ _ _ (Joined order left hosts vm number held before is) all =
+    all_set (FitsItself policy) hosts number (with_vm held vm) (deal_fits policy start order hosts left before all)
     (λ some. is.fits)
-deal_fits tick start _ _ _ (LeftOver order left hosts vm before none) all =
-    deal_fits tick start order hosts left before all
+deal_fits policy start _ _ _ (LeftOver order left hosts vm before none) all =
+    deal_fits policy start order hosts left before all
 
 -- the cores of hosts
 cores_set : (hosts : List Held) (n : ℕ) (held : Held) (vm : Vm) → slice_get hosts n ≡ Some held
@@ -83,10 +84,10 @@ cores_set (h ∷ hs) zero held vm at =
     ap (λ c. c ∷ map held_cores hs) (sym (ap held_cores same))
 cores_set (h ∷ hs) (suc n) held vm at = ap (λ xs. h.cores ∷ xs) (cores_set hs n held vm at)
 
-pub deal_cores : (tick : ℕ) (start : List Held) (order : List Vm) (hosts : List Held) (left : List Vm)
-    → Deal tick start order hosts left → map held_cores hosts ≡ map held_cores start
-deal_cores tick start [] _ [] NoVm = refl
-deal_cores tick start _ _ _ (Joined order left hosts vm number held before is) =
-    cores_set hosts number held vm is.at ∙ deal_cores tick start order hosts left before
-deal_cores tick start _ _ _ (LeftOver order left hosts vm before none) =
-    deal_cores tick start order hosts left before
+pub deal_cores : (policy : Policy) (start : List Held) (order : List Vm) (hosts : List Held) (left : List Vm)
+    → Deal policy start order hosts left → map held_cores hosts ≡ map held_cores start
+deal_cores policy start [] _ [] NoVm = refl
+deal_cores policy start _ _ _ (Joined order left hosts vm number held before is) =
+    cores_set hosts number held vm is.at ∙ deal_cores policy start order hosts left before
+deal_cores policy start _ _ _ (LeftOver order left hosts vm before none) =
+    deal_cores policy start order hosts left before

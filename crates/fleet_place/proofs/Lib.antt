@@ -1,8 +1,9 @@
 mod AcceptLemmas
 mod DealLemmas
-mod FullestLemmas
+mod BestLemmas
 mod HeldLemmas
 mod OneAnswerLemmas
 mod PlaceLemmas
 mod StayLemmas
 mod TurnLemmas
+mod SplitCountLemmas

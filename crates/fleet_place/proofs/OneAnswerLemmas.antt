@@ -1,5 +1,5 @@
 -- VMs fit a host or they don't: planning depends on no name. So nobody moves whose host has room for all.
-use Rattle.std.proofs.Common.{◌≡◌, ℕ, suc, zero, List, [], ◌∷◌, ◌++◌, Option, Some, append-nil, arith, length, map, refl, sym, ap, subst, ◌∙◌}
+use Rattle.std.proofs.Common.{◌≡◌, ℕ, suc, zero, Bool, List, [], ◌∷◌, ◌++◌, Option, Some, append-nil, arith, length, map, refl, sym, ap, subst, ◌∙◌}
 use Rattle.std.proofs.lemmas.List.{length-map}
 use Rattle.std.specs.Prelude.{IfSome, slice_get}
 use Rattle.tab_core.specs.declared.host.Host.{Host}
@@ -10,11 +10,12 @@ use Rattle.period_choice.specs.Choice.{HasPeriod}
 use Rattle.period_choice.specs.Tasks.{AreTasksOf, IsTaskOf, LacksPeriod}
 use Rattle.worst_fit.specs.Placement.{IsPlacement}
 use Rattle.plan_make.specs.Unsplit.{StandUnsplit}
-use Rattle.size_fit.specs.Fits.{HasNoPlan, NoPeriod, NoRoom}
+use Rattle.size_fit.specs.Fits.{AreSplit, HasNoPlan, HasNoRoom, NoPeriod, NoRoom, Split, Unplanned}
 use Rattle.fleet_place.specs.Fits.{FitsHost, FitsNot, Refused, TooMany, TooMuch}
 use Rattle.fleet_place.specs.Held.{Held}
 use Rattle.fleet_place.specs.Stays.{IsStay}
 use Rattle.fleet_place.specs.declared.group.Group.{Group}
+use Rattle.fleet_place.specs.declared.policy.Policy.{Policy}
 use Rattle.fleet_place.specs.declared.vm.Vm.{Vm}
 
 abbrev pub asks : List Vcpu → List (Option Reservation)
@@ -78,23 +79,41 @@ refused_too a b tick cores alike (NoRoom number rest over stuck) = NoRoom number
   stuck = stuck.stuck;
 }
 
+-- a plan of one host splits the vCPUs that a plan of another splits which asks for as much
+split_too : (a b : Host) (vcpus : List ℕ) → a.tick_ns ≡ b.tick_ns → a.cores ≡ b.cores → asks a.vcpus ≡ asks b.vcpus
+    → AreSplit a vcpus → AreSplit b vcpus
+split_too a b vcpus tick cores alike split = record {
+  tasks = split.tasks;
+  placed = split.placed;
+  tasks_are = tasks_alike a b split.tasks tick alike split.tasks_are;
+  placement = subst (λ n. IsPlacement split.tasks n split.placed) cores split.placement;
+  left = split.left;
+}
+
+-- one host has no room where another has none that asks for as much
+no_room_too : (no_split : Bool) (a b : Host) → a.tick_ns ≡ b.tick_ns → a.cores ≡ b.cores → asks a.vcpus ≡ asks b.vcpus
+    → HasNoRoom no_split a → HasNoRoom no_split b
+no_room_too no_split a b tick cores alike (Unplanned why) = Unplanned (refused_too a b tick cores alike why)
+no_room_too no_split a b tick cores alike (Split vcpus whole split some) =
+    Split vcpus whole (split_too a b vcpus tick cores alike split) some
+
 -- VMs that fit a host have no reason not to
-pub never_both : (tick cores : ℕ) (vms : List Vm) → FitsHost tick cores vms → FitsNot tick cores vms → ⊥
-never_both tick cores vms fits (TooMuch much) = absurd (omega (arith, much, fits.load))
-never_both tick cores vms fits (TooMany many) = absurd (omega (arith, many, fits.count))
-never_both tick cores vms fits (Refused refused) =
+pub never_both : (policy : Policy) (cores : ℕ) (vms : List Vm) → FitsHost policy cores vms → FitsNot policy cores vms → ⊥
+never_both policy cores vms fits (TooMuch much) = absurd (omega (arith, much, fits.load))
+never_both policy cores vms fits (TooMany many) = absurd (omega (arith, many, fits.count))
+never_both policy cores vms fits (Refused refused) =
     let is = fits.accepted.is in
-    fits.accepted.planned (refused_too refused.host fits.accepted.host (refused.is.tick_ns ∙ sym is.tick_ns)
+    fits.accepted.planned (no_room_too policy.no_split refused.host fits.accepted.host (refused.is.tick_ns ∙ sym is.tick_ns)
     (refused.is.cores_are ∙ sym is.cores_are) (refused.is.reserved ∙ sym (ap asks is.vcpus_are)) refused.refused)
 
 -- nobody moves whose host has room for all that were there
-pub nobody_moves : (tick : ℕ) (group : Group) (held : Held) (moved : List Vm) → IsStay tick group held moved
-    → FitsHost tick group.cores group.vms.items → moved ≡ []
-nobody_moves tick group held [] is fits = refl
-nobody_moves tick group held (vm ∷ moved) is fits =
-    let not : FitsNot tick held.cores (held.vms ++ vm ∷ moved) =
+pub nobody_moves : (policy : Policy) (group : Group) (held : Held) (moved : List Vm) → IsStay policy group held moved
+    → FitsHost policy group.cores group.vms.items → moved ≡ []
+nobody_moves policy group held [] is fits = refl
+nobody_moves policy group held (vm ∷ moved) is fits =
+    let not : FitsNot policy held.cores (held.vms ++ vm ∷ moved) =
     is.longest (vm ∷ moved) [] (sym (append-nil (vm ∷ moved))) (omega arith) in
-    let all : FitsNot tick group.cores group.vms.items =
-    subst (λ n. FitsNot tick n group.vms.items) is.cores_are
-    (subst (λ vms. FitsNot tick held.cores vms) (sym is.parts) not) in
-    absurd (never_both tick group.cores group.vms.items fits all)
+    let all : FitsNot policy group.cores group.vms.items =
+    subst (λ n. FitsNot policy n group.vms.items) is.cores_are
+    (subst (λ vms. FitsNot policy held.cores vms) (sym is.parts) not) in
+    absurd (never_both policy group.cores group.vms.items fits all)

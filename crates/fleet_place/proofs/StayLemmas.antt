@@ -11,6 +11,7 @@ use Rattle.fleet_place.specs.Fits.{FitsHost}
 use Rattle.fleet_place.specs.Held.{Held, all_held}
 use Rattle.fleet_place.specs.Stays.{NextHost, NoHost, Stay}
 use Rattle.fleet_place.specs.declared.group.Group.{Group}
+use Rattle.fleet_place.specs.declared.policy.Policy.{Policy}
 use Rattle.fleet_place.specs.declared.vm.Vm.{Vm}
 
 -- the VMs of a group, and of a host
@@ -37,11 +38,11 @@ shuffle a b c d =
     rw (left, right) (IsPermutation-append a a ((b ++ c) ++ d) ((c ++ b) ++ d) (IsPermutation-refl a) inner)
 
 -- each VM of the groups stays or moves
-pub stay_keeps : (tick : ℕ) (groups : List Group) (hosts : List Held) (moved : List Vm) → Stay tick groups hosts moved
+pub stay_keeps : (policy : Policy) (groups : List Group) (hosts : List Held) (moved : List Vm) → Stay policy groups hosts moved
     → IsPermutation (flat_map group_vms groups) (all_held hosts ++ moved)
-stay_keeps tick [] [] [] NoHost = IsPermutation-refl []
-stay_keeps tick _ _ _ (NextHost groups hosts moved group held mine before is) =
-    let rec = stay_keeps tick groups hosts moved before in
+stay_keeps policy [] [] [] NoHost = IsPermutation-refl []
+stay_keeps policy _ _ _ (NextHost groups hosts moved group held mine before is) =
+    let rec = stay_keeps policy groups hosts moved before in
     let whole : flat_map group_vms (groups ++ group ∷ []) ≡ flat_map group_vms groups ++ (held.vms ++ mine) =
     one_more group_vms groups group ∙ ap (λ xs. flat_map group_vms groups ++ xs) is.parts in
     let parts : all_held (hosts ++ held ∷ []) ≡ all_held hosts ++ held.vms = one_more held_vms hosts held in
@@ -51,14 +52,14 @@ stay_keeps tick _ _ _ (NextHost groups hosts moved group held mine before is) =
     (shuffle (all_held hosts) moved held.vms mine))
 
 -- the VMs of a host fit it, if it has any
-abbrev pub FitsItself : ℕ → Held → Type 0
-FitsItself tick held = 1 ≤ length held.vms → FitsHost tick held.cores held.vms
+abbrev pub FitsItself : Policy → Held → Type 0
+FitsItself policy held = 1 ≤ length held.vms → FitsHost policy held.cores held.vms
 
-pub stay_fits : (tick : ℕ) (groups : List Group) (hosts : List Held) (moved : List Vm) → Stay tick groups hosts moved
-    → All (FitsItself tick) hosts
-stay_fits tick [] [] [] NoHost = All-nil (FitsItself tick)
-stay_fits tick _ _ _ (NextHost groups hosts moved group held mine before is) =
-    All-push (FitsItself tick) hosts held (stay_fits tick groups hosts moved before) is.fits
+pub stay_fits : (policy : Policy) (groups : List Group) (hosts : List Held) (moved : List Vm) → Stay policy groups hosts moved
+    → All (FitsItself policy) hosts
+stay_fits policy [] [] [] NoHost = All-nil (FitsItself policy)
+stay_fits policy _ _ _ (NextHost groups hosts moved group held mine before is) =
+    All-push (FitsItself policy) hosts held (stay_fits policy groups hosts moved before) is.fits
 
 -- the hosts are those of the groups
 abbrev pub group_cores : Group → ℕ
@@ -67,10 +68,10 @@ group_cores group = group.cores
 abbrev pub held_cores : Held → ℕ
 held_cores held = held.cores
 
-pub stay_cores : (tick : ℕ) (groups : List Group) (hosts : List Held) (moved : List Vm) → Stay tick groups hosts moved
+pub stay_cores : (policy : Policy) (groups : List Group) (hosts : List Held) (moved : List Vm) → Stay policy groups hosts moved
     → map held_cores hosts ≡ map group_cores groups
-stay_cores tick [] [] [] NoHost = refl
-stay_cores tick _ _ _ (NextHost groups hosts moved group held mine before is) =
+stay_cores policy [] [] [] NoHost = refl
+stay_cores policy _ _ _ (NextHost groups hosts moved group held mine before is) =
     map-append held_cores hosts (held ∷ [])
-    ∙ (ap (λ xs. xs ++ held.cores ∷ []) (stay_cores tick groups hosts moved before)
+    ∙ (ap (λ xs. xs ++ held.cores ∷ []) (stay_cores policy groups hosts moved before)
     ∙ (ap (λ c. map group_cores groups ++ c ∷ []) is.cores_are ∙ sym (map-append group_cores groups (group ∷ []))))

@@ -1,6 +1,6 @@
 -- What is written of a placing.
 -- Source: the lines are this project's own.
-use Rattle.std.specs.Prelude.{ℕ, ◌-◌, ◌*◌, ◌++◌, List, [], codes, decimal, flat_map, get_or, length}
+use Rattle.std.specs.Prelude.{ℕ, ◌-◌, ◌*◌, ◌++◌, List, [], codes, decimal, flat_map, get_or, length, slice_index, sum}
 use Rattle.std.specs.List.{sum_by}
 use Rattle.tab_core.specs.declared.TheConstants.{ROUND}
 use Rattle.tab_words.specs.Texts.{texts_below}
@@ -35,24 +35,28 @@ placing_text hosts left = texts_below (host_lines hosts) (length hosts) ++ flat_
 
 -- the summary's first row, which names the columns
 abbrev pub summary_head : List ℕ
-summary_head = codes "host  cores   VMs  vCPUs    load %  headroom %\n"
+summary_head = codes "host  cores   VMs  vCPUs  split    load %  headroom %\n"
 
--- how full so many cores are, with so many VMs and vCPUs that take so many ticks of a round
-unfoldable pub full_cells : ℕ → ℕ → ℕ → ℕ → List ℕ
-full_cells cores vms vcpus load = count_cell 7 cores ++ (count_cell 6 vms ++ (count_cell 7 vcpus
-    ++ (percent_cell 5 (ppm_of load (cores * ROUND))
-    ++ (percent_cell 7 (ppm_of (cores * ROUND - load) (cores * ROUND)) ++ codes "\n"))))
+-- how full the cores are, with these counts of VMs, of vCPUs and of split ones, and the ticks of a round that they take
+unfoldable pub full_cells : ℕ → ℕ → ℕ → ℕ → ℕ → List ℕ
+full_cells cores vms vcpus split load = count_cell 7 cores ++ (count_cell 6 vms ++ (count_cell 7 vcpus
+    ++ (count_cell 7 split ++ (percent_cell 5 (ppm_of load (cores * ROUND))
+    ++ (percent_cell 7 (ppm_of (cores * ROUND - load) (cores * ROUND)) ++ codes "\n")))))
 
--- the summary's row of the host of this number: its cores, VMs and vCPUs, its load and what is left
-abbrev pub host_row : List Held → ℕ → List ℕ
-host_row hosts host = let held = get_or hosts host no_host in
-    count_cell 4 host ++ full_cells held.cores (length held.vms) (vcpu_count_of held.vms) (load_of_vms held.vms)
+-- the summary's row of the host of this number: its cores, VMs and vCPUs, how many of these are split, its load and what
+-- is left
+abbrev pub host_row : List Held → List ℕ → ℕ → List ℕ
+host_row hosts splits host = let held = get_or hosts host no_host in
+    count_cell 4 host ++ full_cells held.cores (length held.vms) (vcpu_count_of held.vms) (slice_index splits host)
+    (load_of_vms held.vms)
 
 -- the summary's row of all hosts together
-abbrev pub fleet_row : List Held → List ℕ
-fleet_row hosts = codes " all" ++ full_cells (sum_by (λ held. held.cores) hosts) (sum_by (λ held. length held.vms) hosts)
-    (sum_by (λ held. vcpu_count_of held.vms) hosts) (sum_by (λ held. load_of_vms held.vms) hosts)
+abbrev pub fleet_row : List Held → List ℕ → List ℕ
+fleet_row hosts splits = codes " all" ++ full_cells (sum_by (λ held. held.cores) hosts)
+    (sum_by (λ held. length held.vms) hosts) (sum_by (λ held. vcpu_count_of held.vms) hosts) (sum splits)
+    (sum_by (λ held. load_of_vms held.vms) hosts)
 
 -- the summary of a placing: a row for each host, by number, and one for all together
-abbrev pub summary_text : List Held → List ℕ
-summary_text hosts = summary_head ++ (texts_below (host_row hosts) (length hosts) ++ fleet_row hosts)
+abbrev pub summary_text : List Held → List ℕ → List ℕ
+summary_text hosts splits =
+    summary_head ++ (texts_below (host_row hosts splits) (length hosts) ++ fleet_row hosts splits)

@@ -1,14 +1,15 @@
 ghost use Rattle.std.specs.Prelude.{◌≡◌, ℕ, ◌≤◌, ◌++◌, ◌⊎◌, false, true, [], ◌∷◌, IfErr, IfOk, List};
-ghost use Rattle.tab_core.specs.declared.TheConstants.{MAX_CORES, MAX_TICK_NS, MIN_TICK_NS};
+ghost use Rattle.tab_core.specs.declared.TheConstants.{MAX_CORES};
 ghost use Rattle.sizes_doc.specs.SizedHost.{HasSizesFault};
 ghost use Rattle.sizes_doc.specs.declared.fault.SizesFault.{SizesFault as SizesFaultValue};
 ghost use Rattle.sizes_doc.specs.declared.size.Size.{Size as SizeValue};
-ghost use Rattle.size_fit.specs.Fits.{HasNoPlan};
+ghost use Rattle.size_fit.specs.Fits.{HasNoRoom};
 ghost use Rattle.fleet_place.specs.Fits.{IsAccepted, IsHostRefused};
 ghost use Rattle.fleet_place.specs.Held.{sizes_in};
 ghost use Rattle.fleet_place.specs.declared.fault.PlaceFault.TheVariants.{NoHost, NoMemory};
 
 use crate::fault::PlaceFault;
+use crate::policy::Policy;
 use crate::vm::Vm;
 use period_choice::{TaskFault, tasks_of};
 use plan_make::{PlanFault, plan_with};
@@ -17,33 +18,32 @@ use std::alloc::{AllocError, Global};
 use tab_core::{Host, NoMemory};
 use worst_fit::place as place_on_cores;
 
-// Whether the sizes make a host that is planned. Where worst fit leaves no vCPU over, it is; otherwise the planner says.
+// Whether the sizes make a host that is planned. If worst fit leaves no vCPU over, it is; otherwise a vCPU would be split,
+// and if that may be, the planner says.
 pub(crate) fn is_accepted(
     alloc: Global,
-    tick_ns: u32,
+    policy: &Policy,
     cores: u32,
     sizes: &[Size<'_>],
 ) -> Result<bool, PlaceFault>
     requires some_core { 1 ≤ cores }
     requires few_cores { cores ≤ MAX_CORES }
-    requires least_tick { MIN_TICK_NS ≤ tick_ns }
-    requires most_tick { tick_ns ≤ MAX_TICK_NS }
-    ensures accepted { IfOk result (λ is. is ≡ true → IsAccepted tick_ns cores sizes.now) }
-    ensures refused { IfOk result (λ is. is ≡ false → IsHostRefused tick_ns cores sizes.now) }
+    ensures accepted { IfOk result (λ is. is ≡ true → IsAccepted policy.now cores sizes.now) }
+    ensures refused { IfOk result (λ is. is ≡ false → IsHostRefused policy.now cores sizes.now) }
     ensures fault { IfErr result (λ fault. (fault ≡ NoMemory)
         ⊎ ((why : SizesFaultValue) × (fault ≡ NoHost why) × HasSizesFault sizes.now why)) }
 {
-    match host_of_sizes(alloc, cores, tick_ns, sizes) {
-        Ok(host) => Ok(has_plan(alloc, &host)?),
+    match host_of_sizes(alloc, cores, policy.tick_ns, sizes) {
+        Ok(host) => Ok(has_room(alloc, policy.no_split, &host)?),
         Err(SizesFault::NoMemory) => Err(PlaceFault::NoMemory),
         Err(fault) => Err(PlaceFault::NoHost(fault)),
     }
 }
 
-// Whether the host has a plan.
-fn has_plan(alloc: Global, host: &Host) -> Result<bool, NoMemory>
-    ensures planned { IfOk result (λ has. has ≡ true → HasNoPlan host.now → ⊥) }
-    ensures refused { IfOk result (λ has. has ≡ false → HasNoPlan host.now) }
+// Whether the host has room for its vCPUs.
+fn has_room(alloc: Global, no_split: bool, host: &Host) -> Result<bool, NoMemory>
+    ensures planned { IfOk result (λ has. has ≡ true → HasNoRoom no_split host.now → ⊥) }
+    ensures refused { IfOk result (λ has. has ≡ false → HasNoRoom no_split host.now) }
 {
     let tasks = match tasks_of(alloc, host) {
         Ok(tasks) => tasks,
@@ -53,6 +53,9 @@ fn has_plan(alloc: Global, host: &Host) -> Result<bool, NoMemory>
     let placed = place_on_cores(alloc, &tasks, host.cores)?;
     if placed.left.items().is_empty() {
         return Ok(true);
+    }
+    if no_split {
+        return Ok(false);
     }
     match plan_with(alloc, host, tasks) {
         Ok(_) => Ok(true),

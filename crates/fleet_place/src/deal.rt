@@ -1,12 +1,13 @@
 ghost use Rattle.std.specs.Prelude.{◌≡◌, ◌+◌, ◌*◌, ◌<◌, ◌≤◌, None, IfNone, IfOk, IfSome, IsSomeAnd, OnOk, Some, false, true, length, replicate, slice_get, slice_set};
-ghost use Rattle.tab_core.specs.declared.TheConstants.{MAX_TICK_NS, MAX_VCPUS, MIN_TICK_NS, ROUND};
-ghost use Rattle.fleet_place.specs.Deals.{Deal, IsFullest, Joins, JoinsNone, JoinsNot, with_vm};
-ghost use Rattle.fleet_place.specs.Held.{Held, load_of_vms, room_for_vms, vcpu_count_of};
+ghost use Rattle.tab_core.specs.declared.TheConstants.{MAX_VCPUS, ROUND};
+ghost use Rattle.fleet_place.specs.Deals.{Deal, IsBestHost, Joins, JoinsNone, JoinsNot, with_vm};
+ghost use Rattle.fleet_place.specs.Held.{Held, load_of_vms, rank_of, vcpu_count_of};
 ghost use Rattle.fleet_place.specs.Inside.Memory.{IsAlike, IsRefusedBeside, IsTurn, KnowsRefusals};
 
 use crate::ask::{is_accepted, sizes_with};
 use crate::fault::PlaceFault;
 use crate::fleet_host::FleetHost;
+use crate::policy::Policy;
 use crate::vm::Vm;
 use sizes_doc::Size;
 use std::alloc::Global;
@@ -15,16 +16,14 @@ use tab_core::NoMemory;
 // Deals the VMs, in this order, to the hosts, and gives those that are left over.
 pub(crate) fn deal<'a>(
     alloc: Global,
-    tick_ns: u32,
+    policy: &Policy,
     hosts: &mut [FleetHost<'a>],
     order: &[Vm<'a>],
 ) -> Result<Vec<Vm<'a>>, PlaceFault>
-    requires least_tick { MIN_TICK_NS ≤ tick_ns }
-    requires most_tick { tick_ns ≤ MAX_TICK_NS }
-    ensures { IfOk result (λ left. Deal tick_ns hosts.old order.now hosts.new left.items) }
+    ensures { IfOk result (λ left. Deal policy.now hosts.old order.now hosts.new left.items) }
 {
     let mut refused = nothing_refused(alloc, hosts.len())?;
-    deal_all(alloc, tick_ns, hosts, &mut refused, order)
+    deal_all(alloc, policy, hosts, &mut refused, order)
 }
 
 // No size was refused at any host yet.
@@ -37,40 +36,36 @@ fn nothing_refused<'a>(alloc: Global, hosts: usize) -> Result<Vec<Option<Size<'a
 // Deals the VMs, where these sizes were refused at the hosts.
 fn deal_all<'a>(
     alloc: Global,
-    tick_ns: u32,
+    policy: &Policy,
     hosts: &mut [FleetHost<'a>],
     refused: &mut [Option<Size<'a>>],
     order: &[Vm<'a>],
 ) -> Result<Vec<Vm<'a>>, PlaceFault>
-    requires least_tick { MIN_TICK_NS ≤ tick_ns }
-    requires most_tick { tick_ns ≤ MAX_TICK_NS }
     requires sizes { length refused.old ≡ length hosts.old }
-    requires known { KnowsRefusals tick_ns hosts.old refused.old }
-    ensures { IfOk result (λ left. Deal tick_ns hosts.old order.now hosts.new left.items) }
+    requires known { KnowsRefusals policy.now hosts.old refused.old }
+    ensures { IfOk result (λ left. Deal policy.now hosts.old order.now hosts.new left.items) }
 {
     let mut left = Vec::new(alloc);
     for vm in order {
-        deal_next(alloc, tick_ns, hosts, refused, &mut left, vm)?;
+        deal_next(alloc, policy, hosts, refused, &mut left, vm)?;
     }
     Ok(left)
 }
 
-// Deals one VM: to the fullest host that it fits, or else to those that are left over.
+// Deals one VM: to the best host that it fits, or else to those that are left over.
 fn deal_next<'a>(
     alloc: Global,
-    tick_ns: u32,
+    policy: &Policy,
     hosts: &mut [FleetHost<'a>],
     refused: &mut [Option<Size<'a>>],
     left: &mut Vec<Vm<'a>>,
     vm: &Vm<'a>,
 ) -> Result<(), PlaceFault>
-    requires least_tick { MIN_TICK_NS ≤ tick_ns }
-    requires most_tick { tick_ns ≤ MAX_TICK_NS }
     requires sizes { length refused.old ≡ length hosts.old }
-    requires known { KnowsRefusals tick_ns hosts.old refused.old }
-    ensures { OnOk result (IsTurn tick_ns vm.now hosts.old left.old.items hosts.new left.new.items refused.new) }
+    requires known { KnowsRefusals policy.now hosts.old refused.old }
+    ensures { OnOk result (IsTurn policy.now vm.now hosts.old left.old.items hosts.new left.new.items refused.new) }
 {
-    match fullest(alloc, tick_ns, hosts, refused, vm)? {
+    match best_host(alloc, policy, hosts, refused, vm)? {
         Some(number) => push_to(hosts, refused, number, vm)?,
         None => left.push(*vm)?,
     }
@@ -99,28 +94,26 @@ fn push_to<'a>(
     Ok(())
 }
 
-// The fullest host that the VM fits, and of those the lowest. Of each host the size is kept that was refused last beside
+// The best host that the VM fits, and of those the lowest. Of each host the size is kept that was refused last beside
 // its VMs, so that the planner isn't asked again for one that is alike.
-fn fullest<'a>(
+fn best_host<'a>(
     alloc: Global,
-    tick_ns: u32,
+    policy: &Policy,
     hosts: &[FleetHost<'a>],
     refused: &mut [Option<Size<'a>>],
     vm: &Vm<'a>,
 ) -> Result<Option<usize>, PlaceFault>
-    requires least_tick { MIN_TICK_NS ≤ tick_ns }
-    requires most_tick { tick_ns ≤ MAX_TICK_NS }
     requires sizes { length refused.old ≡ length hosts.now }
-    requires known { KnowsRefusals tick_ns hosts.now refused.old }
-    ensures some { IfOk result (λ best. IfSome best (λ number. (held : Held) × IsFullest tick_ns hosts.now vm.now number held)) }
-    ensures none { IfOk result (λ best. IfNone best (JoinsNone tick_ns hosts.now vm.now)) }
+    requires known { KnowsRefusals policy.now hosts.now refused.old }
+    ensures some { IfOk result (λ best. IfSome best (λ number. (held : Held) × IsBestHost policy.now hosts.now vm.now number held)) }
+    ensures none { IfOk result (λ best. IfNone best (JoinsNone policy.now hosts.now vm.now)) }
     ensures length { OnOk result (length refused.new ≡ length refused.old) }
-    ensures knows { OnOk result (KnowsRefusals tick_ns hosts.now refused.new) }
+    ensures knows { OnOk result (KnowsRefusals policy.now hosts.now refused.new) }
 {
     let mut best = None;
     for (number, host) in hosts.iter().enumerate() {
-        if is_fuller(hosts, best, host.room())
-            && joins(alloc, tick_ns, host, &mut refused[number], vm)?
+        if is_better(policy, hosts, best, host.rank(policy))
+            && joins(alloc, policy, host, &mut refused[number], vm)?
         {
             best = Some(number);
         }
@@ -128,16 +121,16 @@ fn fullest<'a>(
     Ok(best)
 }
 
-// Whether a host with so much room is fuller than the best so far, if there is one.
-fn is_fuller(hosts: &[FleetHost<'_>], best: Option<usize>, room: u64) -> bool
+// Whether a host of this rank comes before the best so far, if there is one.
+fn is_better(policy: &Policy, hosts: &[FleetHost<'_>], best: Option<usize>, rank: u64) -> bool
     requires { IfSome best (λ number. number < length hosts.now) }
-    ensures fuller { result ≡ true → IfSome best (λ number. (held : Held) → slice_get hosts.now number ≡ Some held
-        → room < room_for_vms held) }
+    ensures better { result ≡ true → IfSome best (λ number. (held : Held) → slice_get hosts.now number ≡ Some held
+        → rank < rank_of policy.now held) }
     ensures not { result ≡ false → IsSomeAnd best (λ number. (held : Held) × (slice_get hosts.now number ≡ Some held)
-        × (room_for_vms held ≤ room)) }
+        × (rank_of policy.now held ≤ rank)) }
 {
     match best {
-        Some(number) => room < hosts[number].room(),
+        Some(number) => rank < hosts[number].rank(policy),
         None => true,
     }
 }
@@ -145,23 +138,21 @@ fn is_fuller(hosts: &[FleetHost<'_>], best: Option<usize>, room: u64) -> bool
 // Whether the VM fits the host beside its VMs. If it doesn't since the planner refuses it, its size is kept.
 fn joins<'a>(
     alloc: Global,
-    tick_ns: u32,
+    policy: &Policy,
     host: &FleetHost<'a>,
     refused: &mut Option<Size<'a>>,
     vm: &Vm<'a>,
 ) -> Result<bool, PlaceFault>
-    requires least_tick { MIN_TICK_NS ≤ tick_ns }
-    requires most_tick { tick_ns ≤ MAX_TICK_NS }
-    requires known { IfSome refused.old (IsRefusedBeside tick_ns host.now) }
-    ensures fits { IfOk result (λ fits. fits ≡ true → Joins tick_ns host.now vm.now) }
-    ensures fits_not { IfOk result (λ fits. fits ≡ false → JoinsNot tick_ns host.now vm.now) }
-    ensures knows { OnOk result (IfSome refused.new (IsRefusedBeside tick_ns host.now)) }
+    requires known { IfSome refused.old (IsRefusedBeside policy.now host.now) }
+    ensures fits { IfOk result (λ fits. fits ≡ true → Joins policy.now host.now vm.now) }
+    ensures fits_not { IfOk result (λ fits. fits ≡ false → JoinsNot policy.now host.now vm.now) }
+    ensures knows { OnOk result (IfSome refused.new (IsRefusedBeside policy.now host.now)) }
 {
     if !host.has_space(vm) || is_known(refused, vm) {
         return Ok(false);
     }
     let sizes = sizes_with(alloc, host.vms(), vm)?;
-    let fits = is_accepted(alloc, tick_ns, host.cores(), &sizes)?;
+    let fits = is_accepted(alloc, policy, host.cores(), &sizes)?;
     if !fits {
         *refused = Some(vm.size);
     }

@@ -1,12 +1,13 @@
 ghost use Rattle.std.specs.Prelude.{◌≡◌, ◌+◌, ◌*◌, ◌<◌, ◌≤◌, ◌⊎◌, [], IsTrue, OnOk};
 ghost use Rattle.tab_core.specs.declared.TheConstants.{MAX_CORES, MAX_VCPUS, ROUND};
 ghost use Rattle.fleet_place.specs.Deals.{with_vm};
-ghost use Rattle.fleet_place.specs.Held.{load_of_vms, room_for_vms, vcpu_count_of};
+ghost use Rattle.fleet_place.specs.Held.{load_of_vms, load_ppm, rank_of, room_for_vms, vcpu_count_of};
 
+use crate::policy::Policy;
 use crate::vm::Vm;
 use std::alloc::Global;
 use std::marker::Model;
-use tab_core::{MAX_VCPUS, NoMemory, ROUND};
+use tab_core::{MAX_VCPUS, NoMemory, ROUND, WHOLE_PPM};
 
 /// A host of a fleet with its VMs, which are within its limits. Contracts see its cores and its VMs.
 #[derive(Drop)]
@@ -82,6 +83,25 @@ impl<'a> FleetHost<'a> {
         ensures { result ≡ room_for_vms self.now }
     {
         u64::from(self.cores) * u64::from(ROUND) - self.load
+    }
+
+    // Its load in parts per million of its cores, rounded down.
+    fn load_ppm(&self) -> u64
+        ensures { result ≡ load_ppm self.now }
+    {
+        self.load * u64::from(WHOLE_PPM) / (u64::from(self.cores) * u64::from(ROUND))
+    }
+
+    /// What the policy goes by: of the hosts that a VM fits, it goes to the one with the least of it.
+    #[tactic(auto, unfolding(crate::specs::Held::rank_of))]
+    pub fn rank(&self, policy: &Policy) -> u64
+        ensures { result ≡ rank_of policy.now self.now }
+    {
+        if policy.spread {
+            self.load_ppm()
+        } else {
+            self.room()
+        }
     }
 
     /// Whether the VM is within the host's limits beside its VMs: together they take no more ticks of a

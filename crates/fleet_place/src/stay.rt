@@ -1,5 +1,5 @@
 ghost use Rattle.std.specs.Prelude.{◌≡◌, ℕ, ◌<◌, ◌≤◌, ◌++◌, ◌*◌, ◌^◌, IfErr, IfOk, IsTrue, List, MatchOption, false, true, length, take};
-ghost use Rattle.tab_core.specs.declared.TheConstants.{MAX_CORES, MAX_TICK_NS, MAX_VCPUS, MIN_TICK_NS, ROUND};
+ghost use Rattle.tab_core.specs.declared.TheConstants.{MAX_CORES, MAX_VCPUS, ROUND};
 ghost use Rattle.fleet_place.specs.Fits.{FitsHost, FitsNot};
 ghost use Rattle.fleet_place.specs.Held.{load_of_vms, vcpu_count_of};
 ghost use Rattle.fleet_place.specs.Stays.{IsStay};
@@ -9,6 +9,7 @@ use crate::ask::{is_accepted, sizes_of};
 use crate::fault::PlaceFault;
 use crate::fleet_host::FleetHost;
 use crate::group::Group;
+use crate::policy::Policy;
 use crate::vm::Vm;
 use std::alloc::Global;
 use tab_core::{MAX_VCPUS, NoMemory, ROUND};
@@ -16,17 +17,15 @@ use tab_core::{MAX_VCPUS, NoMemory, ROUND};
 // The host with those VMs that stay on it; the others are pushed to those that move.
 pub(crate) fn stay<'a>(
     alloc: Global,
-    tick_ns: u32,
+    policy: &Policy,
     group: &Group<'a>,
     moved: &mut Vec<Vm<'a>>,
 ) -> Result<FleetHost<'a>, PlaceFault>
-    requires least_tick { MIN_TICK_NS ≤ tick_ns }
-    requires most_tick { tick_ns ≤ MAX_TICK_NS }
     ensures { IfOk result (λ host. (mine : List VmValue) × (moved.new.items ≡ moved.old.items ++ mine)
-        × IsStay tick_ns group.now host mine) }
+        × IsStay policy.now group.now host mine) }
 {
     let vms = group.vms.as_slice();
-    let count = longest(alloc, tick_ns, group.cores, vms)?;
+    let count = longest(alloc, policy, group.cores, vms)?;
     moved.extend_from_slice(&vms[count..])?;
     let host = host_with(alloc, group.cores, &vms[..count])?;
     Ok(host)
@@ -48,19 +47,17 @@ fn host_with<'a>(alloc: Global, cores: u32, vms: &[Vm<'a>]) -> Result<FleetHost<
 }
 
 // How many of the VMs, from the first on, fit a host of so many cores: the greatest count.
-fn longest(alloc: Global, tick_ns: u32, cores: u32, vms: &[Vm<'_>]) -> Result<usize, PlaceFault>
+fn longest(alloc: Global, policy: &Policy, cores: u32, vms: &[Vm<'_>]) -> Result<usize, PlaceFault>
     requires some_core { 1 ≤ cores }
     requires few_cores { cores ≤ MAX_CORES }
-    requires least_tick { MIN_TICK_NS ≤ tick_ns }
-    requires most_tick { tick_ns ≤ MAX_TICK_NS }
     ensures within { IfOk result (λ count. count ≤ length vms.now) }
-    ensures fits { IfOk result (λ count. 1 ≤ count → FitsHost tick_ns cores (take count vms.now)) }
+    ensures fits { IfOk result (λ count. 1 ≤ count → FitsHost policy.now cores (take count vms.now)) }
     ensures longest { IfOk result (λ count. (more : ℕ) → count < more → more ≤ length vms.now
-        → FitsNot tick_ns cores (take more vms.now)) }
+        → FitsNot policy.now cores (take more vms.now)) }
 {
     let mut count = vms.len();
     while count > 0 {
-        if is_fit(alloc, tick_ns, cores, &vms[..count])? {
+        if is_fit(alloc, policy, cores, &vms[..count])? {
             return Ok(count);
         }
         count -= 1;
@@ -69,19 +66,17 @@ fn longest(alloc: Global, tick_ns: u32, cores: u32, vms: &[Vm<'_>]) -> Result<us
 }
 
 // Whether the VMs fit a host of so many cores.
-fn is_fit(alloc: Global, tick_ns: u32, cores: u32, vms: &[Vm<'_>]) -> Result<bool, PlaceFault>
+fn is_fit(alloc: Global, policy: &Policy, cores: u32, vms: &[Vm<'_>]) -> Result<bool, PlaceFault>
     requires some_core { 1 ≤ cores }
     requires few_cores { cores ≤ MAX_CORES }
-    requires least_tick { MIN_TICK_NS ≤ tick_ns }
-    requires most_tick { tick_ns ≤ MAX_TICK_NS }
-    ensures fits { IfOk result (λ is. is ≡ true → FitsHost tick_ns cores vms.now) }
-    ensures fits_not { IfOk result (λ is. is ≡ false → FitsNot tick_ns cores vms.now) }
+    ensures fits { IfOk result (λ is. is ≡ true → FitsHost policy.now cores vms.now) }
+    ensures fits_not { IfOk result (λ is. is ≡ false → FitsNot policy.now cores vms.now) }
 {
     if !takes_within(vms, u64::from(cores) * u64::from(ROUND)) || !counts_within(vms) {
         return Ok(false);
     }
     let sizes = sizes_of(alloc, vms)?;
-    is_accepted(alloc, tick_ns, cores, &sizes)
+    is_accepted(alloc, policy, cores, &sizes)
 }
 
 // Whether the VMs take at most so many ticks of a round.

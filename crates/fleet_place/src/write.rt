@@ -1,4 +1,4 @@
-ghost use Rattle.std.specs.Prelude.{◌≡◌, ◌*◌, ◌<◌, ◌≤◌, ◌^◌, ◌++◌, flat_map, length};
+ghost use Rattle.std.specs.Prelude.{◌≡◌, ◌*◌, ◌<◌, ◌≤◌, ◌^◌, ◌++◌, codes, flat_map, length, sum};
 ghost use Rattle.std.specs.List.{sum_by};
 ghost use Rattle.tab_io.specs.Sinks.{Writes};
 ghost use Rattle.tab_words.specs.Texts.{texts_below};
@@ -91,35 +91,56 @@ fn put_left_vm<K: Sink>(sink: &mut K, vm: &Vm<'_>) -> Result<(), WriteFault>
     )
 }
 
-/// Writes how full each host is, a row for each, and a row for all together. There are 1 to 65,535 hosts.
+/// Writes how full each host is and how many of its vCPUs are split, a row for each, and a row for all together. There are
+/// 1 to 65,535 hosts.
 ///
 /// Loads are in percent with four digits, rounded down. A fault leaves a prefix of the text in the sink. Nothing is
 /// settled, and nothing is allocated.
-pub fn write_summary<K: Sink>(sink: &mut K, hosts: &[FleetHost<'_>]) -> Result<(), WriteFault>
+pub fn write_summary<K: Sink>(
+    sink: &mut K,
+    hosts: &[FleetHost<'_>],
+    splits: &[u32],
+) -> Result<(), WriteFault>
     requires some { 1 ≤ length hosts.now }
     requires few { length hosts.now ≤ 65535 }
-    ensures { Writes (K.state sink.old) (K.state sink.new) (summary_text hosts.now) result }
+    requires each { length splits.now ≡ length hosts.now }
+    ensures { Writes (K.state sink.old) (K.state sink.new) (summary_text hosts.now splits.now) result }
 {
-    write_all(sink, b"host  cores   VMs  vCPUs    load %  headroom %\n")?;
-    put_rows(sink, hosts)?;
-    put_fleet(sink, hosts)
+    write_all(
+        sink,
+        b"host  cores   VMs  vCPUs  split    load %  headroom %\n",
+    )?;
+    put_rows(sink, hosts, splits)?;
+    put_fleet(sink, hosts, sum_of(splits))
 }
 
 // Writes the row of each host.
-fn put_rows<K: Sink>(sink: &mut K, hosts: &[FleetHost<'_>]) -> Result<(), WriteFault>
+fn put_rows<K: Sink>(
+    sink: &mut K,
+    hosts: &[FleetHost<'_>],
+    splits: &[u32],
+) -> Result<(), WriteFault>
     requires few { length hosts.now ≤ 65535 }
-    ensures { Writes (K.state sink.old) (K.state sink.new) (texts_below (host_row hosts.now) (length hosts.now)) result }
+    requires each { length splits.now ≡ length hosts.now }
+    ensures { Writes (K.state sink.old) (K.state sink.new)
+        (texts_below (host_row hosts.now splits.now) (length hosts.now)) result }
 {
     for number in 0..hosts.len() {
-        put_row(sink, hosts, number)?;
+        put_row(sink, hosts, splits, number)?;
     }
     Ok(())
 }
 
 // Writes the row of a host.
-fn put_row<K: Sink>(sink: &mut K, hosts: &[FleetHost<'_>], number: usize) -> Result<(), WriteFault>
-    requires { number < length hosts.now }
-    ensures { Writes (K.state sink.old) (K.state sink.new) (host_row hosts.now number) result }
+fn put_row<K: Sink>(
+    sink: &mut K,
+    hosts: &[FleetHost<'_>],
+    splits: &[u32],
+    number: usize,
+) -> Result<(), WriteFault>
+    requires low { number < length hosts.now }
+    requires each { length splits.now ≡ length hosts.now }
+    ensures { Writes (K.state sink.old) (K.state sink.new) (host_row hosts.now splits.now number) result }
 {
     let host = &hosts[number];
     put_full(
@@ -129,6 +150,7 @@ fn put_row<K: Sink>(sink: &mut K, hosts: &[FleetHost<'_>], number: usize) -> Res
             cores: u64::from(host.cores()),
             vms: host.vms().len() as u64,
             vcpus: u64::from(host.vcpus()),
+            split: u64::from(splits[number]),
             load: host.load(),
         },
     )
@@ -140,19 +162,23 @@ struct Full {
     cores: u64,
     vms: u64,
     vcpus: u64,
+    split: u64,
     load: u64,
 }
 
 // Writes the row of all hosts.
-fn put_fleet<K: Sink>(sink: &mut K, hosts: &[FleetHost<'_>]) -> Result<(), WriteFault>
+fn put_fleet<K: Sink>(sink: &mut K, hosts: &[FleetHost<'_>], split: u64) -> Result<(), WriteFault>
     requires some { 1 ≤ length hosts.now }
     requires few { length hosts.now ≤ 65535 }
-    ensures { Writes (K.state sink.old) (K.state sink.new) (fleet_row hosts.now) result }
+    ensures { Writes (K.state sink.old) (K.state sink.new)
+        (codes " all" ++ full_cells (sum_by (λ held. held.cores) hosts.now) (sum_by (λ held. length held.vms) hosts.now)
+        (sum_by (λ held. vcpu_count_of held.vms) hosts.now) split (sum_by (λ held. load_of_vms held.vms) hosts.now)) result }
 {
     let mut all = Full {
         cores: 0,
         vms: 0,
         vcpus: 0,
+        split,
         load: 0,
     };
     for host in hosts {
@@ -171,7 +197,7 @@ fn put_full<K: Sink>(sink: &mut K, first: &Cell<'_>, full: &Full) -> Result<(), 
     requires few { full.now.cores < 2 ^ 22 }
     requires load { full.now.load < 2 ^ 40 }
     ensures { Writes (K.state sink.old) (K.state sink.new)
-        (cell_text first.now ++ full_cells full.now.cores full.now.vms full.now.vcpus full.now.load) result }
+        (cell_text first.now ++ full_cells full.now.cores full.now.vms full.now.vcpus full.now.split full.now.load) result }
 {
     let ticks = full.cores * u64::from(ROUND);
     put_cells(
@@ -181,11 +207,24 @@ fn put_full<K: Sink>(sink: &mut K, first: &Cell<'_>, full: &Full) -> Result<(), 
             Cell::Count(7, full.cores),
             Cell::Count(6, full.vms),
             Cell::Count(7, full.vcpus),
+            Cell::Count(7, full.split),
             Cell::Percent(5, ppm_of(full.load, ticks)),
             Cell::Percent(7, ppm_of(ticks.saturating_sub(full.load), ticks)),
             Cell::Text(b"\n"),
         ],
     )
+}
+
+// How many vCPUs are split together.
+fn sum_of(splits: &[u32]) -> u64
+    requires { length splits.now ≤ 65535 }
+    ensures { result ≡ sum splits.now }
+{
+    let mut sum = 0;
+    for split in splits {
+        sum += u64::from(*split);
+    }
+    sum
 }
 
 // A part of a whole, in parts per million.

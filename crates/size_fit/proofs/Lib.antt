@@ -1,3 +1,4 @@
 mod LoadLemmas
 mod MoreLemmas
 mod NameLemmas
+mod SplitLemmas

@@ -1,5 +1,5 @@
 -- More VMs of a size beside those of a host, and how many of them fit.
-use Rattle.std.proofs.Common.{◌≡◌, ℕ, ◌+◌, ◌-◌, ◌*◌, ◌/◌, ◌<◌, ◌≤◌, List, [], ◌∷◌, ◌++◌, length, length-append, map, get_or, take, replicate, suc, zero, inl, inr, refl, ap, subst, sym, ◌∙◌, arith}
+use Rattle.std.proofs.Common.{◌≡◌, Bool, ℕ, ◌+◌, ◌*◌, ◌/◌, ◌<◌, ◌≤◌, List, [], ◌∷◌, ◌++◌, length, length-append, map, get_or, take, replicate, suc, zero, inl, inr, refl, ap, subst, sym, ◌∙◌, arith}
 use Rattle.std.proofs.lemmas.Bool.{cases_lt}
 use Rattle.std.proofs.lemmas.List.{length-map, length-replicate, map-append}
 use Rattle.std.proofs.Math.Nat.{le-div_iff_mul-le}
@@ -62,16 +62,16 @@ rooms_next sizes i rooms room low at before =
 -- ---- the search
 
 -- so many more VMs fit, and so many don't; there may be less than these
-pub record Between (host : Host) (size : Size) (fits fails : ℕ) : Type 0 where
+pub record Between (no_split : Bool) (host : Host) (size : Size) (fits fails : ℕ) : Type 0 where
   pub order : fits < fails
   pub few : (count : ℕ) → count < fails → length host.vcpus + count * size.vcpus ≤ MAX_VCPUS
-  pub fit : 1 ≤ fits → FitWith host size fits
-  pub full : FitNotWith host size fails
+  pub fit : 1 ≤ fits → FitWith no_split host size fits
+  pub full : FitNotWith no_split host size fails
 
 -- before the search: none more, and more than the vCPUs that are left
-pub begins : (host : Host) (size : Size) (left : ℕ) → length host.vcpus ≤ MAX_VCPUS
-    → left + length host.vcpus ≡ MAX_VCPUS → Between host size 0 (left / size.vcpus + 1)
-begins host size left few all =
+pub begins : (no_split : Bool) (host : Host) (size : Size) (left : ℕ) → length host.vcpus ≤ MAX_VCPUS
+    → left + length host.vcpus ≡ MAX_VCPUS → Between no_split host size 0 (left / size.vcpus + 1)
+begins no_split host size left few all =
     let some : 0 < size.vcpus = (let one = size.some_vcpus in omega arith) in
     record {
       order = omega arith;
@@ -88,9 +88,9 @@ begins host size left few all =
     }
 
 -- so many fit
-pub tried_fits : (host : Host) (size : Size) (fits fails count : ℕ) → Between host size fits fails → count < fails
-    → FitWith host size count → Between host size count fails
-tried_fits host size fits fails count before low fit = record {
+pub tried_fits : (no_split : Bool) (host : Host) (size : Size) (fits fails count : ℕ) → Between no_split host size fits fails → count < fails
+    → FitWith no_split host size count → Between no_split host size count fails
+tried_fits no_split host size fits fails count before low fit = record {
   order = low;
   few = before.few;
   fit = λ one. fit;
@@ -98,9 +98,9 @@ tried_fits host size fits fails count before low fit = record {
 }
 
 -- so many don't
-pub tried_fails : (host : Host) (size : Size) (fits fails count : ℕ) → Between host size fits fails → fits < count
-    → count < fails → FitNotWith host size count → Between host size fits count
-tried_fails host size fits fails count before high low full = record {
+pub tried_fails : (no_split : Bool) (host : Host) (size : Size) (fits fails count : ℕ) → Between no_split host size fits fails → fits < count
+    → count < fails → FitNotWith no_split host size count → Between no_split host size fits count
+tried_fails no_split host size fits fails count before high low full = record {
   order = high;
   few = λ k lt. before.few k (omega arith);
   fit = before.fit;
@@ -108,8 +108,8 @@ tried_fails host size fits fails count before high low full = record {
 }
 
 -- at the end one more doesn't fit
-pub ends : (host : Host) (size : Size) (fits fails : ℕ) → Between host size fits fails → fails ≤ fits + 1
-    → FitMore host size fits
-ends host size fits fails before near =
+pub ends : (no_split : Bool) (host : Host) (size : Size) (fits fails : ℕ) → Between no_split host size fits fails → fails ≤ fits + 1
+    → FitMore no_split host size fits
+ends no_split host size fits fails before near =
     let next : fails ≡ fits + 1 = (let order = before.order in omega arith) in
-    record { fit = before.fit; full = subst (FitNotWith host size) next before.full }
+    record { fit = before.fit; full = subst (FitNotWith no_split host size) next before.full }

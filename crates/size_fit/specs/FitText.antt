@@ -2,7 +2,6 @@
 use Rattle.std.specs.Prelude.{ℕ, ◌-◌, ◌*◌, ◌/◌, ◌++◌, List, [], codes, decimal, flat_map, length, slice_index}
 use Rattle.std.specs.List.{sum_by}
 use Rattle.tab_core.specs.declared.TheConstants.{ROUND, WHOLE_PPM}
-use Rattle.tab_core.specs.declared.host.Host.{Host}
 use Rattle.tab_core.specs.declared.vcpu.Vcpu.{Vcpu}
 use Rattle.tab_words.specs.Texts.{texts_below}
 use Rattle.view_cells.specs.Cells.{count_cell, percent_cell}
@@ -14,9 +13,10 @@ use Rattle.size_fit.specs.declared.fit.Room.{Room}
 
 -- ---- the head
 
--- the first line: so many vCPUs fit so many cores
-unfoldable pub head_line : ℕ → ℕ → List ℕ
-head_line vcpus cores = codes "fits: vCPUs " ++ (decimal vcpus ++ (codes ", cores " ++ (decimal cores ++ codes "\n")))
+-- the first line: how many vCPUs fit how many cores, and how many of them are split
+unfoldable pub head_line : ℕ → ℕ → ℕ → List ℕ
+head_line vcpus cores split = codes "fits: vCPUs " ++ (decimal vcpus ++ (codes ", cores " ++ (decimal cores
+    ++ (codes ", split " ++ (decimal split ++ codes "\n")))))
 
 -- ---- loads
 
@@ -66,9 +66,13 @@ loads_text loads = fit_load_head ++ (texts_below (fit_core_row loads) (length lo
 abbrev pub rooms_text : List Room → List ℕ
 rooms_text rooms = size_head ++ flat_map size_row rooms
 
--- what is written where VMs fit: how many vCPUs and cores there are, the loads, and the room for each size
-abbrev pub fit_text : ℕ → ℕ → List ℕ → List Room → List ℕ
-fit_text vcpus cores loads rooms = head_line vcpus cores ++ (loads_text loads ++ rooms_text rooms)
+-- what is written where VMs fit: how many vCPUs, cores and split vCPUs there are, the loads, and the room for each size
+abbrev pub fit_text : ℕ → ℕ → ℕ → List ℕ → List Room → List ℕ
+fit_text vcpus cores split loads rooms = head_line vcpus cores split ++ (loads_text loads ++ rooms_text rooms)
+
+-- what is written where no vCPU may be split and this one would be
+unfoldable pub split_line : List ℕ → List ℕ
+split_line name = codes "refused: no core has room for all of " ++ (name ++ codes "\n")
 
 -- what is written where the VMs don't fit: the line of the planner's refusal
 abbrev pub refusal_line : List Vcpu → PlanFault → List ℕ

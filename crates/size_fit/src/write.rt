@@ -3,7 +3,7 @@ ghost use Rattle.tab_core.specs.declared.TheConstants.{MAX_CORES, ROUND};
 ghost use Rattle.tab_io.specs.Sinks.{Writes};
 ghost use Rattle.tab_words.specs.Texts.{texts_below};
 ghost use Rattle.view_cells.specs.CellTexts.{cell_text};
-ghost use Rattle.size_fit.specs.FitText.{fit_core_row, fit_host_row, fit_text, head_line, load_cells, loads_text, ppm_of, refusal_line, rooms_text, size_row, total_load};
+ghost use Rattle.size_fit.specs.FitText.{fit_core_row, fit_host_row, fit_text, head_line, load_cells, loads_text, ppm_of, refusal_line, rooms_text, size_row, split_line, total_load};
 
 use crate::fit::{Fit, Room};
 use plan_make::{PlanFault, put_no_period, put_no_room};
@@ -15,7 +15,7 @@ use view_cells::{Cell, put_cells};
 
 /// Writes how the VMs of a host of so many vCPUs and cores fit it.
 ///
-/// A line says how many vCPUs and cores there are. A row for each core has its load and what is left, of a round, and
+/// A line says how many vCPUs and cores there are, and how many vCPUs are split. A row for each core has its load and what is left, of a round, and
 /// a row has both of all cores together. A row for each size has how many of its VMs there are, and how many more fit.
 /// Loads are in percent with four digits, rounded down.
 ///
@@ -29,23 +29,31 @@ pub fn write_fit<K: Sink>(
     requires few { length fit.now.loads.items ≤ MAX_CORES }
     requires some { 1 ≤ length fit.now.loads.items }
     ensures { Writes (K.state sink.old) (K.state sink.new)
-        (fit_text vcpus cores fit.now.loads.items fit.now.rooms.items) result }
+        (fit_text vcpus cores (length fit.now.split.items) fit.now.loads.items fit.now.rooms.items) result }
 {
-    put_all(sink, vcpus, cores, &fit.loads, &fit.rooms)
+    put_all(
+        sink,
+        vcpus,
+        cores,
+        fit.split.len() as u64,
+        &fit.loads,
+        &fit.rooms,
+    )
 }
 
 fn put_all<K: Sink>(
     sink: &mut K,
     vcpus: u32,
     cores: u32,
+    split: u64,
     loads: &[u32],
     rooms: &[Room<'_>],
 ) -> Result<(), WriteFault>
     requires few { length loads.now ≤ MAX_CORES }
     requires some { 1 ≤ length loads.now }
-    ensures { Writes (K.state sink.old) (K.state sink.new) (fit_text vcpus cores loads.now rooms.now) result }
+    ensures { Writes (K.state sink.old) (K.state sink.new) (fit_text vcpus cores split loads.now rooms.now) result }
 {
-    put_head(sink, vcpus, cores)?;
+    put_head(sink, vcpus, cores, split)?;
     put_loads(sink, loads)?;
     put_rooms(sink, rooms)
 }
@@ -69,9 +77,26 @@ pub fn write_refusal<K: Sink>(
     }
 }
 
+/// Writes the line of a refusal of a host whose vCPU of this name would be split, where none may be.
+///
+/// A fault leaves a prefix of it in the sink. Nothing is settled, and nothing is allocated.
+#[tactic(auto, unfolding(crate::specs::FitText::split_line))]
+pub fn write_split<K: Sink>(sink: &mut K, name: &[u8]) -> Result<(), WriteFault>
+    ensures { Writes (K.state sink.old) (K.state sink.new) (split_line name.now) result }
+{
+    put_pieces(
+        sink,
+        &[
+            TextPiece::Text(b"refused: no core has room for all of "),
+            TextPiece::Text(name),
+            TextPiece::Text(b"\n"),
+        ],
+    )
+}
+
 #[tactic(auto, unfolding(crate::specs::FitText::head_line))]
-fn put_head<K: Sink>(sink: &mut K, vcpus: u32, cores: u32) -> Result<(), WriteFault>
-    ensures { Writes (K.state sink.old) (K.state sink.new) (head_line vcpus cores) result }
+fn put_head<K: Sink>(sink: &mut K, vcpus: u32, cores: u32, split: u64) -> Result<(), WriteFault>
+    ensures { Writes (K.state sink.old) (K.state sink.new) (head_line vcpus cores split) result }
 {
     put_pieces(
         sink,
@@ -80,6 +105,8 @@ fn put_head<K: Sink>(sink: &mut K, vcpus: u32, cores: u32) -> Result<(), WriteFa
             TextPiece::Number(vcpus),
             TextPiece::Text(b", cores "),
             TextPiece::Number(cores),
+            TextPiece::Text(b", split "),
+            TextPiece::Wide(split),
             TextPiece::Text(b"\n"),
         ],
     )

@@ -107,7 +107,8 @@ const ROWS: Word = Word {
 // How many cores the host has.
 const CORES: Word = Word {
     name: "cores",
-    kind: Kind::Option("N", ValueParser::Signed(1, MAX_CORES as i64)),
+    // (more than a host has are refused later, with what to do)
+    kind: Kind::Option("N", ValueParser::Signed(1, u32::MAX as i64)),
     is_required: true,
     help: "The host's cores, 1 to 32",
     ..VALUE
@@ -126,6 +127,14 @@ const EMPTY: Word = Word {
     name: "empty",
     kind: Kind::Flag,
     help: "Takes no size for a host without VMs; without it, no size is refused",
+    ..VALUE
+};
+
+// Whether a host has no room if its plan would split a vCPU.
+const NO_SPLIT: Word = Word {
+    name: "no-split",
+    kind: Kind::Flag,
+    help: "A host has no room if its plan would split a vCPU, which the schedulers of export can't have",
     ..VALUE
 };
 
@@ -254,6 +263,12 @@ const EXPORT: Entry = Entry {
             ..VALUE
         },
         Word {
+            name: "cpus",
+            kind: Kind::Option("LIST", TEXT),
+            help: "In lines for a scheduler, the CPUs that the cores are, as 1-23 or 2,4,6-46:2, in place of --first-cpu",
+            ..VALUE
+        },
+        Word {
             name: "full",
             kind: Kind::Flag,
             help: "With deadline, all of a core, and not 95 percent: the lines tell the kernel so",
@@ -325,7 +340,7 @@ const HOST: Entry = Entry {
 const FIT: Entry = Entry {
     name: "fit",
     about: "Writes how VMs of sizes fit a host, and how many more of each would; ends with 3 where they don't fit",
-    words: &[CORES, TICK, EMPTY, SIZES],
+    words: &[CORES, TICK, NO_SPLIT, EMPTY, SIZES],
 };
 
 // What `place` takes: which hosts there are, what is kept of an earlier placing, and what is written.
@@ -371,9 +386,16 @@ const PLACE: Entry = Entry {
         Word {
             name: "summary",
             kind: Kind::Flag,
-            help: "How full each host is, in place of lines",
+            help: "How full each host is, and how many of its vCPUs are split, in place of lines",
             ..VALUE
         },
+        Word {
+            name: "spread",
+            kind: Kind::Flag,
+            help: "A VM goes to the host of least load, in place of the fullest that it fits",
+            ..VALUE
+        },
+        NO_SPLIT,
         TICK,
         EMPTY,
         SIZES,

@@ -104,6 +104,12 @@ fn suits_format(matches: &ArgMatches<'_>, format: &str) -> Result<(), Fault> {
     if matches.get_one::<u32>("first-cpu").is_some() && is_whole {
         return other_format("--first-cpu", "rtds, deadline, cgroup and libvirt");
     }
+    if matches.get_str("cpus").is_some() && is_whole {
+        return other_format("--cpus", "rtds, deadline, cgroup and libvirt");
+    }
+    if matches.get_str("cpus").is_some() && matches.get_one::<u32>("first-cpu").is_some() {
+        return Err(Fault::TwoCpus);
+    }
     if matches.get_str("map").is_some() && is_whole {
         return other_format("--map", "rtds, deadline, cgroup and libvirt");
     }
@@ -125,6 +131,7 @@ fn line_words<'w>(matches: &'w ArgMatches<'_>, form: LineForm) -> LineWords<'w> 
         file: matches.get_str("FILE"),
         map: matches.get_str("map"),
         first_cpu: matches.get_one::<u32>("first-cpu"),
+        cpus: matches.get_str("cpus"),
     }
 }
 
@@ -161,6 +168,7 @@ pub(crate) fn size_words<'w, 'm: 'w>(matches: &'w ArgMatches<'m>) -> SizeWords<'
     SizeWords {
         cores: matches.get_one::<u32>("cores"),
         tick_ns: tick_ns(matches),
+        no_split: matches.get_flag("no-split"),
         sizes: matches.get_strs("SIZE"),
         empty: matches.get_flag("empty"),
     }
@@ -177,6 +185,8 @@ pub(crate) fn place_words<'w, 'm: 'w>(matches: &'w ArgMatches<'m>) -> PlaceWords
         documents: matches.get_flag("documents"),
         summary: matches.get_flag("summary"),
         tick_ns: tick_ns(matches),
+        no_split: matches.get_flag("no-split"),
+        spread: matches.get_flag("spread"),
         sizes: matches.get_strs("SIZE"),
         empty: matches.get_flag("empty"),
     }

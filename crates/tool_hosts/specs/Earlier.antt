@@ -4,6 +4,7 @@ use Rattle.std.specs.Prelude.{◌≡◌, ℕ, ◌⊎◌, Bool, true, false, if�
 use Rattle.fleet_place.specs.Deals.{IsPlacing, with_vm}
 use Rattle.fleet_place.specs.Held.{Held}
 use Rattle.fleet_place.specs.declared.group.Group.{Group}
+use Rattle.fleet_place.specs.declared.policy.Policy.{Policy}
 use Rattle.fleet_place.specs.declared.vm.Vm.{Vm}
 use Rattle.tool_hosts.specs.declared.earlier.Stay.{Stay}
 
@@ -46,9 +47,9 @@ pub record AreBack (vms : List Vm) (start : List Held) (stays : List Stay) (host
   pub left : others ≡ others_in marks vms
 
 -- VMs are placed where those of these lines are back on their hosts before
-pub record IsPlacingBeside (tick : ℕ) (start : List Held) (vms : List Vm) (stays : List Stay) (hosts : List Held)
+pub record IsPlacingBeside (policy : Policy) (start : List Held) (vms : List Vm) (stays : List Stay) (hosts : List Held)
     (left : List Vm) : Type 0 where
   pub groups : List Group
   pub others : List Vm
   pub are_back : AreBack vms start stays (held_in groups) others
-  pub placing : IsPlacing tick groups others hosts left
+  pub placing : IsPlacing policy groups others hosts left

@@ -34,10 +34,10 @@ guest_fault Libvirt tick view = unlike_of tick view.names.items view.tasks.items
 abbrev pub export_fault : LineForm → ℕ → List Vcpu → View → Option Unkept
 export_fault form tick vcpus view = option_or (unkept_of (scheduler_of form) tick vcpus view) (guest_fault form tick view)
 
--- the text that is exported, where core 0 is the first CPU
-abbrev pub export_text : LineForm → ℕ → ℕ → List Vcpu → View → List ℕ
-export_text Rtds first tick vcpus view = rtds_text first tick vcpus view
-export_text Deadline first tick vcpus view = deadline_text scheduler.Deadline first tick view
-export_text FullDeadline first tick vcpus view = deadline_text scheduler.FullDeadline first tick view
-export_text Cgroup first tick vcpus view = cgroup_text first tick view
-export_text Libvirt first tick vcpus view = libvirt_text first tick view
+-- the text that is exported, where the cores are these CPUs
+abbrev pub export_text : LineForm → List ℕ → ℕ → List Vcpu → View → List ℕ
+export_text Rtds cpus tick vcpus view = rtds_text cpus tick vcpus view
+export_text Deadline cpus tick vcpus view = deadline_text scheduler.Deadline cpus tick view
+export_text FullDeadline cpus tick vcpus view = deadline_text scheduler.FullDeadline cpus tick view
+export_text Cgroup cpus tick vcpus view = cgroup_text cpus tick view
+export_text Libvirt cpus tick vcpus view = libvirt_text cpus tick view

@@ -1,12 +1,12 @@
 //! How many hosts would do for VMs that are left over.
 ghost use Rattle.std.specs.Prelude.{◌≡◌, ◌≤◌, IfOk, length};
-ghost use Rattle.tab_core.specs.declared.TheConstants.{MAX_CORES, MAX_TICK_NS, MIN_TICK_NS};
+ghost use Rattle.tab_core.specs.declared.TheConstants.{MAX_CORES};
 
 use crate::fleet::alike;
 use crate::place::placed;
-use fleet_place::{FleetHost, Placing, Vm};
+use fleet_place::{FleetHost, Placing, Policy, Vm};
 use std::alloc::Global;
-use tab_core::{MAX_TICK_NS, MIN_TICK_NS, ROUND};
+use tab_core::ROUND;
 use tool_input::{Fault, shown};
 
 /// How many hosts more would do for the VMs that are left over: so many of them are used where the VMs are placed by
@@ -14,23 +14,24 @@ use tool_input::{Fault, shown};
 ///
 /// There is room on a host for each VM, but more hosts are walked for each VM too. So few are tried first, and twice as
 /// many where these don't do. Hosts that have no VM don't change where the others go, which is argued and not proved: a
-/// VM goes to the fullest host that it fits.
-pub(crate) fn more_hosts(alloc: Global, tick_ns: u32, placing: &Placing<'_>) -> Result<usize, Fault>
-    requires least_tick { MIN_TICK_NS ≤ tick_ns }
-    requires most_tick { tick_ns ≤ MAX_TICK_NS }
-{
+/// VM goes to the fullest host that it fits. So VMs are never spread here.
+pub(crate) fn more_hosts(
+    alloc: Global,
+    policy: &Policy,
+    placing: &Placing<'_>,
+) -> Result<usize, Fault> {
     let left = placing.left.as_slice();
     let cores = most_cores(&placing.hosts);
     let mut count = twice_the_least(cores, left).min(left.len());
     while count < left.len() {
-        let more = placed_alike(alloc, tick_ns, cores, count, left)?;
+        let more = placed_alike(alloc, policy, cores, count, left)?;
         match more.left.first() {
-            Some(vm) => fits_alone(alloc, tick_ns, cores, vm)?,
+            Some(vm) => fits_alone(alloc, policy, cores, vm)?,
             None => return Ok(used(&more.hosts)),
         }
         count = count.saturating_mul(2).min(left.len());
     }
-    let more = placed_alike(alloc, tick_ns, cores, count, left)?;
+    let more = placed_alike(alloc, policy, cores, count, left)?;
     match more.left.first() {
         Some(vm) => Err(misfit(alloc, vm)),
         None => Ok(used(&more.hosts)),
@@ -65,28 +66,24 @@ fn twice_the_least(cores: u32, vms: &[Vm<'_>]) -> usize
 // The VMs, placed on so many hosts of so many cores, which had none.
 fn placed_alike<'a>(
     alloc: Global,
-    tick_ns: u32,
+    policy: &Policy,
     cores: u32,
     count: usize,
     vms: &[Vm<'a>],
 ) -> Result<Placing<'a>, Fault>
     requires some_core { 1 ≤ cores }
     requires few_cores { cores ≤ MAX_CORES }
-    requires least_tick { MIN_TICK_NS ≤ tick_ns }
-    requires most_tick { tick_ns ≤ MAX_TICK_NS }
 {
     let groups = alike(alloc, cores, count)?;
-    placed(alloc, tick_ns, &groups, vms)
+    placed(alloc, policy, &groups, vms)
 }
 
 // Refuses a VM that doesn't fit a host of so many cores alone.
-fn fits_alone(alloc: Global, tick_ns: u32, cores: u32, vm: &Vm<'_>) -> Result<(), Fault>
+fn fits_alone(alloc: Global, policy: &Policy, cores: u32, vm: &Vm<'_>) -> Result<(), Fault>
     requires some_core { 1 ≤ cores }
     requires few_cores { cores ≤ MAX_CORES }
-    requires least_tick { MIN_TICK_NS ≤ tick_ns }
-    requires most_tick { tick_ns ≤ MAX_TICK_NS }
 {
-    let alone = placed_alike(alloc, tick_ns, cores, 1, &[*vm])?;
+    let alone = placed_alike(alloc, policy, cores, 1, &[*vm])?;
     if alone.left.is_empty() {
         Ok(())
     } else {

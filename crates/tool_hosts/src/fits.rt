@@ -1,19 +1,20 @@
 ghost use Rattle.std.specs.Prelude.{◌≤◌, length};
 ghost use Rattle.tab_core.specs.declared.TheConstants.{MAX_CORES};
 
-use crate::hosts::{SizeWords, host_fault, sizes_of, text_of};
-use crate::remedy::{Remedy, remedy_of};
+use crate::hosts::{SizeWords, cores_of, host_fault, sizes_of, text_of};
+use crate::remedy::{Remedy, cores_for, remedy_of};
 use plan_make::PlanFault;
-use size_fit::{Fit, fit_sizes, write_fit, write_refusal};
-use sizes_doc::host_of_sizes;
-use tab_core::{Host, MAX_CORES, MAX_TICK_NS, MIN_TICK_NS, TICK_NS};
+use size_fit::{Fit, fit_sizes, write_fit, write_refusal, write_split};
+use sizes_doc::{Size, host_of_sizes};
+use tab_core::{Host, MAX_TICK_NS, MIN_TICK_NS, TICK_NS, VcpuNo};
 use tool_input::{Fault, finish, output_of};
+use vcpu_names::name_in;
 
 /// Does `fit`: it writes how VMs of sizes fit a host and how many more of each size would, or why they don't fit, and
 /// on standard error what to do. It answers whether they do.
 pub fn fit(rt: &HostRuntime, words: &SizeWords<'_>) -> Result<bool, Fault> {
-    // (the words were refused where the cores or the tick are out of their range)
-    let cores = words.cores.unwrap_or(1).clamp(1, MAX_CORES);
+    // (the words were refused if the tick is out of its range)
+    let cores = cores_of(words.cores)?;
     let tick_ns = words
         .tick_ns
         .unwrap_or(TICK_NS)
@@ -24,17 +25,44 @@ pub fn fit(rt: &HostRuntime, words: &SizeWords<'_>) -> Result<bool, Fault> {
         Ok(host) => host,
         Err(fault) => return Err(host_fault(rt.alloc(), sizes.as_slice(), fault)),
     };
-    match fit_sizes(rt.alloc(), &host, sizes.as_slice()) {
-        Ok(fit) => put_fit(rt, &host, &fit),
+    match fit_sizes(rt.alloc(), &host, words.no_split, sizes.as_slice()) {
+        Ok(fit) => match fit.split.first() {
+            Some(vcpu) if words.no_split => {
+                put_split(rt, &host, *vcpu)?;
+                tell_cores(rt, &host, sizes.as_slice());
+                Ok(false)
+            }
+            _ => put_fit(rt, &host, &fit),
+        },
         Err(PlanFault::NoMemory) => Err(Fault::NoMemory),
         Err(fault) => {
             put_refusal(rt, &host, &fault)?;
             // (where memory runs out, the refusal is there alone)
-            if let Ok(remedy) = remedy_of(rt.alloc(), &host, sizes.as_slice(), &fault) {
+            if let Ok(remedy) = remedy_of(
+                rt.alloc(),
+                &host,
+                words.no_split,
+                sizes.as_slice(),
+                &fault,
+            ) {
                 tell_remedy(rt, &remedy);
             }
             Ok(false)
         }
+    }
+}
+
+// Writes that no vCPU may be split, and that this one would be.
+fn put_split(rt: &HostRuntime, host: &Host, vcpu: VcpuNo) -> Result<(), Fault> {
+    let mut sink = output_of(rt)?;
+    write_split(&mut sink, name_in(host.vcpus.items(), &vcpu))?;
+    finish(&mut sink)
+}
+
+// Tells with how many cores nobody is split. (If memory runs out, the refusal is there alone.)
+fn tell_cores(rt: &HostRuntime, host: &Host, sizes: &[Size<'_>]) {
+    if let Ok(remedy) = cores_for(rt.alloc(), host, true, sizes) {
+        tell_remedy(rt, &remedy);
     }
 }
 

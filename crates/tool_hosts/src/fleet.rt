@@ -3,6 +3,7 @@ ghost use Rattle.std.specs.Prelude.{◌≡◌, ◌≤◌, IfOk, length};
 ghost use Rattle.tab_core.specs.declared.TheConstants.{MAX_CORES};
 ghost use Rattle.tool_hosts.specs.declared.fleet.TheConstants.{MAX_HOSTS};
 
+use crate::hosts::cores_of;
 use fleet_place::Group;
 use script_doc::is_skipped;
 use std::alloc::Global;
@@ -35,10 +36,10 @@ pub(crate) fn fleet_of<'a>(
     }
 }
 
-// So many hosts of so many cores. (The words were refused where they are out of their ranges.)
+// So many hosts of so many cores. (The words were refused if their count is out of its range.)
 fn fleet_alike<'a>(alloc: Global, count: u32, cores: u32) -> Result<Fleet<'a>, Fault> {
     let count = (count as usize).clamp(1, MAX_HOSTS);
-    let hosts = alike(alloc, cores.clamp(1, MAX_CORES), count)?;
+    let hosts = alike(alloc, cores_of(Some(cores))?, count)?;
     Ok(Fleet { hosts })
 }
 

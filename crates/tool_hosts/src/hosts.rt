@@ -12,13 +12,15 @@ use tool_input::{Fault, ends_in_return, finish, input_of, line_of, output_of, sh
 // The most bytes of sizes that are taken from words.
 const ROOM: usize = 1_048_576;
 
-/// What the words of `host` and of `fit` say.
+/// What the words of `host` and of `fit` say. Only `fit` goes by `no_split`.
 #[derive(Clone, Copy)]
 pub struct SizeWords<'w> {
     /// The cores of the host.
     pub cores: Option<u32>,
     /// Nanoseconds of a tick.
     pub tick_ns: Option<u32>,
+    /// Whether the host has no room if its plan would split a vCPU.
+    pub no_split: bool,
     /// The sizes; lines of standard input where there are none.
     pub sizes: Option<&'w [&'w str]>,
     /// Whether there may be no size.
@@ -27,8 +29,8 @@ pub struct SizeWords<'w> {
 
 /// Does `host`: it writes the document of the host that the sizes make.
 pub fn host(rt: &HostRuntime, words: &SizeWords<'_>) -> Result<(), Fault> {
-    // (the words were refused where the cores or the tick are out of their range)
-    let cores = words.cores.unwrap_or(1).clamp(1, MAX_CORES);
+    // (the words were refused if the tick is out of its range)
+    let cores = cores_of(words.cores)?;
     let tick_ns = words
         .tick_ns
         .unwrap_or(TICK_NS)
@@ -36,6 +38,18 @@ pub fn host(rt: &HostRuntime, words: &SizeWords<'_>) -> Result<(), Fault> {
     let text = text_of(rt, words.sizes)?;
     let host = host_from(rt.alloc(), &text, words.empty, cores, tick_ns)?;
     put_host(rt, &host)
+}
+
+/// The cores of a host, of which the words name one or more.
+pub(crate) fn cores_of(cores: Option<u32>) -> Result<u32, Fault>
+    ensures some { IfOk result (λ cores. 1 ≤ cores) }
+    ensures few { IfOk result (λ cores. cores ≤ MAX_CORES) }
+{
+    let cores = cores.unwrap_or(1).max(1);
+    if cores > MAX_CORES {
+        return Err(Fault::ManyCores { cores });
+    }
+    Ok(cores)
 }
 
 /// The sizes as lines: those of the words, or of standard input where there are none.

@@ -1,22 +1,27 @@
-ghost use Rattle.std.specs.Prelude.{◌≡◌, ◌<◌, ◌≤◌, ◌^◌, length};
-ghost use Rattle.tab_core.specs.declared.TheConstants.{MAX_VCPUS};
+ghost use Rattle.std.specs.Prelude.{◌≡◌, ◌<◌, ◌≤◌, ◌^◌, ◌+◌, IfOk, length, map};
+ghost use Rattle.std.specs.List.{range_with_len};
+ghost use Rattle.tab_core.specs.declared.TheConstants.{MAX_CORES, MAX_VCPUS};
 ghost use Rattle.tab_io.specs.Sinks.{Writes};
+ghost use Rattle.tool_hosts.specs.declared.lines.TheConstants.{MAX_CPU};
 ghost use Rattle.tool_hosts.specs.Exports.{export_fault, export_text, guest_fault, scheduler_of};
 
 use crate::map::{rename, renamed, renamings_of};
 use std::alloc::Global;
-use tab_core::{Host, Vcpu};
+use tab_core::{Host, NoMemory, Vcpu};
 use tab_io::{Sink, WriteFault};
 use tab_words::cut_sections;
 use tool_input::{
     Fault, Input, Refusal, finish, host_of, input_beside, no_host, output_of, plan_of, refusal_of,
-    shown_whole,
+    shown, shown_whole,
 };
 use view_doc::View;
 use view_schedulers::{
-    Scheduler, Unkept, unkept_of, unlike_of, write_cgroup, write_deadline, write_libvirt,
-    write_rtds,
+    CpuListFault, Scheduler, Unkept, cpus_of, unkept_of, unlike_of, write_cgroup, write_deadline,
+    write_libvirt, write_rtds,
 };
+
+// The greatest number of a CPU that the words name as the first. (They were refused if it is greater.)
+const MAX_CPU: u32 = 8191;
 
 /// What the lines are for.
 #[derive(Clone, Copy)]
@@ -56,8 +61,10 @@ pub struct LineWords<'w> {
     pub file: Option<&'w str>,
     /// The file that gives vCPUs other names.
     pub map: Option<&'w str>,
-    /// The CPU that core 0 is.
+    /// The CPU that core 0 is, from which on the cores are CPUs one after the other.
     pub first_cpu: Option<u32>,
+    /// The list of the CPUs that the cores are, in place of the first.
+    pub cpus: Option<&'w str>,
 }
 
 /// Does `export` for a scheduler: it reads a host and its plan, which `tableau check` has to accept, and writes the lines that put the plan's vCPUs there, by
@@ -79,10 +86,46 @@ pub fn export_lines(rt: &HostRuntime, words: &LineWords<'_>) -> Result<(), Fault
         return Err(Fault::Unkept { place, fault });
     }
     checked(rt.alloc(), place, &host, sections.part(1))?;
-    let first_cpu = words.first_cpu.unwrap_or(0);
+    let cpus = cpus_for(rt.alloc(), words, view.cores)?;
     let mut sink = output_of(rt)?;
-    put_lines(&mut sink, form, first_cpu, host.tick_ns, &vcpus, &view)?;
+    put_lines(&mut sink, form, &cpus, host.tick_ns, &vcpus, &view)?;
     finish(&mut sink)
+}
+
+// The CPUs that so many cores are: those that the words list, of which there may be more, or as many from the first on.
+fn cpus_for(alloc: Global, words: &LineWords<'_>, cores: u32) -> Result<Vec<u32>, Fault>
+    requires { cores ≤ MAX_CORES }
+    ensures { IfOk result (λ cpus. cores ≤ length cpus.items) }
+{
+    let Some(list) = words.cpus else {
+        return Ok(cpus_from(alloc, words.first_cpu.unwrap_or(0).min(MAX_CPU), cores)?);
+    };
+    match cpus_of(alloc, list.as_bytes()) {
+        Ok(cpus) if cpus.len() < cores as usize => Err(Fault::FewCpus {
+            cpus: cpus.len(),
+            cores,
+        }),
+        Ok(cpus) => Ok(cpus),
+        Err(CpuListFault::Twice(cpu)) => Err(Fault::CpuTwice { cpu }),
+        Err(CpuListFault::NoList) => Err(Fault::BadCpus {
+            text: shown(alloc, list.as_bytes())?,
+        }),
+        Err(CpuListFault::NoMemory) => Err(Fault::NoMemory),
+    }
+}
+
+// As many CPUs as there are cores, one after the other.
+fn cpus_from(alloc: Global, first: u32, cores: u32) -> Result<Vec<u32>, NoMemory>
+    requires low { first ≤ MAX_CPU }
+    requires few { cores ≤ MAX_CORES }
+    ensures cpus { IfOk result (λ cpus. cpus.items ≡ map (λ core. first + core) (range_with_len 0 cores)) }
+    ensures size { IfOk result (λ cpus. length cpus.items ≡ cores) }
+{
+    let mut cpus = Vec::with_capacity(alloc, cores as usize)?;
+    for core in 0..cores {
+        cpus.push(first + core)?;
+    }
+    Ok(cpus)
 }
 
 // Refuses the text of a plan that `tableau check` refuses beside this host, with its line.
@@ -125,22 +168,20 @@ fn guest_fault(form: LineForm, tick_ns: u32, view: &View) -> Option<Unkept>
 fn put_lines<K: Sink>(
     sink: &mut K,
     form: LineForm,
-    first_cpu: u32,
+    cpus: &[u32],
     tick_ns: u32,
     vcpus: &[Vcpu],
     view: &View,
 ) -> Result<(), WriteFault>
-    ensures { Writes (K.state sink.old) (K.state sink.new) (export_text form first_cpu tick_ns vcpus.now view.now) result }
+    ensures { Writes (K.state sink.old) (K.state sink.new) (export_text form cpus.now tick_ns vcpus.now view.now) result }
 {
     match form {
-        LineForm::Rtds => write_rtds(sink, first_cpu, tick_ns, vcpus, view),
-        LineForm::Deadline => {
-            write_deadline(sink, Scheduler::Deadline, first_cpu, tick_ns, view)
-        }
+        LineForm::Rtds => write_rtds(sink, cpus, tick_ns, vcpus, view),
+        LineForm::Deadline => { write_deadline(sink, Scheduler::Deadline, cpus, tick_ns, view) }
         LineForm::FullDeadline => {
-            write_deadline(sink, Scheduler::FullDeadline, first_cpu, tick_ns, view)
+            write_deadline(sink, Scheduler::FullDeadline, cpus, tick_ns, view)
         }
-        LineForm::Cgroup => write_cgroup(sink, first_cpu, tick_ns, view),
-        LineForm::Libvirt => write_libvirt(sink, first_cpu, tick_ns, view),
+        LineForm::Cgroup => write_cgroup(sink, cpus, tick_ns, view),
+        LineForm::Libvirt => write_libvirt(sink, cpus, tick_ns, view),
     }
 }

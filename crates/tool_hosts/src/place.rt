@@ -1,5 +1,4 @@
 ghost use Rattle.std.specs.Prelude.{◌≡◌, ◌<◌, ◌≤◌, ◌^◌, IfOk, length};
-ghost use Rattle.tab_core.specs.declared.TheConstants.{MAX_TICK_NS, MIN_TICK_NS};
 ghost use Rattle.fleet_place.specs.Deals.{IsPlacing};
 ghost use Rattle.tool_hosts.specs.Earlier.{IsPlacingBeside, held_in};
 ghost use Rattle.tool_hosts.specs.declared.fleet.TheConstants.{MAX_HOSTS};
@@ -11,7 +10,10 @@ use crate::enough::more_hosts;
 use crate::fleet::{Fleet, fleet_of};
 use crate::hosts::{bad_name, text_of};
 use crate::vms::{NamedVm, named_vms, vms_of};
-use fleet_place::{FleetHost, Group, PlaceFault, Placing, Vm, place, write_placing, write_summary};
+use fleet_place::{
+    FleetHost, Group, PlaceFault, Placing, Policy, Vm, place, splits_of, write_placing,
+    write_summary,
+};
 use sizes_doc::SizesFault;
 use std::alloc::Global;
 use tab_core::{MAX_TICK_NS, MIN_TICK_NS, TICK_NS};
@@ -36,10 +38,7 @@ struct Asked<'w> {
     form: Form,
     // The file of an earlier placing.
     stay: Option<&'w str>,
-    // Nanoseconds of a tick.
-    tick_ns: u32,
-    ghost least_tick: { MIN_TICK_NS ≤ tick_ns },
-    ghost most_tick: { tick_ns ≤ MAX_TICK_NS },
+    policy: Policy,
 }
 
 /// What the words of `place` say.
@@ -61,6 +60,10 @@ pub struct PlaceWords<'w> {
     pub summary: bool,
     /// Nanoseconds of a tick.
     pub tick_ns: Option<u32>,
+    /// Whether a host has no room for VMs if its plan would split a vCPU.
+    pub no_split: bool,
+    /// Whether a VM goes to the host of least load.
+    pub spread: bool,
     /// The sizes; lines of standard input where there are none.
     pub sizes: Option<&'w [&'w str]>,
     /// Whether there may be no size.
@@ -88,9 +91,14 @@ fn place_sizes(
     requires { length vms.now ≤ MAX_VMS }
 {
     let placing = placing_of(rt, asked, fleet, vms)?;
-    let more = more_hosts(rt.alloc(), asked.tick_ns, &placing)?;
+    let filling = Policy {
+        tick_ns: asked.policy.tick_ns,
+        no_split: asked.policy.no_split,
+        spread: false,
+    };
+    let more = more_hosts(rt.alloc(), &filling, &placing)?;
     put(rt, asked, &placing)?;
-    tell_left(rt, &placing, more);
+    tell_left(rt, &asked.policy, &placing, more);
     Ok(placing.left.is_empty())
 }
 
@@ -100,11 +108,20 @@ fn asked_of<'w>(words: &PlaceWords<'w>) -> Result<Asked<'w>, Fault> {
     Ok(Asked {
         form: form_of(words)?,
         stay: words.stay,
+        policy: policy_of(words),
+    })
+}
+
+// By which rules the words place VMs.
+fn policy_of(words: &PlaceWords<'_>) -> Policy {
+    Policy {
         tick_ns: words
             .tick_ns
             .unwrap_or(TICK_NS)
             .clamp(MIN_TICK_NS, MAX_TICK_NS),
-    })
+        no_split: words.no_split,
+        spread: words.spread,
+    }
 }
 
 // Which text the words ask for.
@@ -151,43 +168,39 @@ fn placing_of<'a>(
 {
     let Fleet { mut hosts } = fleet;
     let stays = stays_of(rt, asked.stay, vms)?;
-    let all = vms_of(rt.alloc(), asked.tick_ns, vms)?;
-    placed_beside(rt.alloc(), asked.tick_ns, &mut hosts, &all, &stays)
+    let all = vms_of(rt.alloc(), asked.policy.tick_ns, vms)?;
+    placed_beside(rt.alloc(), &asked.policy, &mut hosts, &all, &stays)
 }
 
 // The VMs placed, where those stay on their hosts that were there by these lines.
 fn placed_beside<'a>(
     alloc: Global,
-    tick_ns: u32,
+    policy: &Policy,
     hosts: &mut [Group<'a>],
     vms: &[Vm<'a>],
     stays: &[Stay],
 ) -> Result<Placing<'a>, Fault>
-    requires least_tick { MIN_TICK_NS ≤ tick_ns }
-    requires most_tick { tick_ns ≤ MAX_TICK_NS }
-    ensures placing { IfOk result (λ placing. IsPlacingBeside tick_ns (held_in hosts.old) vms.now stays.now
+    ensures placing { IfOk result (λ placing. IsPlacingBeside policy.now (held_in hosts.old) vms.now stays.now
         placing.hosts.items placing.left.items) }
     ensures hosts { IfOk result (λ placing. length placing.hosts.items ≡ length hosts.old) }
 {
     let others = put_back(alloc, hosts, vms, stays)?;
-    let placing = placed(alloc, tick_ns, hosts, &others)?;
+    let placing = placed(alloc, policy, hosts, &others)?;
     Ok(placing)
 }
 
 /// The VMs of the groups and the others, placed.
 pub(crate) fn placed<'a>(
     alloc: Global,
-    tick_ns: u32,
+    policy: &Policy,
     groups: &[Group<'a>],
     others: &[Vm<'a>],
 ) -> Result<Placing<'a>, Fault>
-    requires least_tick { MIN_TICK_NS ≤ tick_ns }
-    requires most_tick { tick_ns ≤ MAX_TICK_NS }
-    ensures placing { IfOk result (λ placing. IsPlacing tick_ns groups.now others.now placing.hosts.items
+    ensures placing { IfOk result (λ placing. IsPlacing policy.now groups.now others.now placing.hosts.items
         placing.left.items) }
     ensures hosts { IfOk result (λ placing. length placing.hosts.items ≡ length groups.now) }
 {
-    match place(alloc, tick_ns, groups, others) {
+    match place(alloc, policy, groups, others) {
         Ok(placing) => Ok(placing),
         Err(PlaceFault::NoHost(fault)) => Err(vm_fault(alloc, others, fault)),
         Err(PlaceFault::NoMemory) => Err(Fault::NoMemory),
@@ -215,9 +228,9 @@ fn put(rt: &HostRuntime, asked: &Asked<'_>, placing: &Placing<'_>) -> Result<(),
     let hosts = placing.hosts.as_slice();
     match asked.form {
         Form::Lines => put_lines(rt, hosts, &placing.left),
-        Form::Document(number) => put_documents(rt, asked.tick_ns, alone(hosts, number)),
-        Form::Documents => put_documents(rt, asked.tick_ns, hosts),
-        Form::Summary => put_summary(rt, hosts, &placing.left),
+        Form::Document(number) => put_documents(rt, asked.policy.tick_ns, alone(hosts, number)),
+        Form::Documents => put_documents(rt, asked.policy.tick_ns, hosts),
+        Form::Summary => put_summary(rt, &asked.policy, hosts, &placing.left),
     }
 }
 
@@ -238,20 +251,42 @@ fn put_lines(rt: &HostRuntime, hosts: &[FleetHost<'_>], left: &[Vm<'_>]) -> Resu
 }
 
 // Writes how full each host is, and a line for each VM that is left over.
-fn put_summary(rt: &HostRuntime, hosts: &[FleetHost<'_>], left: &[Vm<'_>]) -> Result<(), Fault>
+fn put_summary(
+    rt: &HostRuntime,
+    policy: &Policy,
+    hosts: &[FleetHost<'_>],
+    left: &[Vm<'_>],
+) -> Result<(), Fault>
     requires some { 1 ≤ length hosts.now }
     requires few { length hosts.now ≤ MAX_HOSTS }
 {
+    let splits = splits_on(rt.alloc(), policy, hosts)?;
     let mut sink = output_of(rt)?;
-    write_summary(&mut sink, hosts)?;
+    write_summary(&mut sink, hosts, &splits)?;
     write_placing(&mut sink, &[], left)?;
     finish(&mut sink)
 }
 
-// Tells how many VMs are left over, if some are, and how many hosts would do.
-fn tell_left(rt: &HostRuntime, placing: &Placing<'_>, more: usize) {
+// How many vCPUs the plan of each host splits.
+fn splits_on(alloc: Global, policy: &Policy, hosts: &[FleetHost<'_>]) -> Result<Vec<u32>, Fault>
+    ensures { IfOk result (λ splits. length splits.items ≡ length hosts.now) }
+{
+    match splits_of(alloc, policy, hosts) {
+        Ok(splits) => Ok(splits),
+        Err(PlaceFault::NoHost(fault)) => Err(Fault::from(fault)),
+        Err(PlaceFault::NoMemory) => Err(Fault::NoMemory),
+    }
+}
+
+// Tells how many VMs are left over, if some are, and how many hosts would do, which are known only for VMs that fill host
+// after host.
+fn tell_left(rt: &HostRuntime, policy: &Policy, placing: &Placing<'_>, more: usize) {
     let count = placing.left.len();
-    if count > 0 {
+    if count > 0 && policy.spread {
+        let _ = eprintln!(rt;
+            "tableau-tools: VMs left over: {count}; take more hosts, or leave --spread out, which fills host after host"
+        );
+    } else if count > 0 {
         let enough = placing.hosts.len().saturating_add(more);
         // (where the line can't be written, the status says it)
         let _ = eprintln!(rt;

@@ -4,6 +4,7 @@ ghost use Rattle.tab_core.specs.declared.TheConstants.{MAX_CORES, MAX_TICK_NS, M
 
 use crate::hosts::host_fault;
 use plan_make::{PlanFault, plan};
+use size_fit::split_of;
 use sizes_doc::{Size, host_of_sizes};
 use std::alloc::Global;
 use tab_core::{Host, MAX_CORES, VcpuNo};
@@ -27,13 +28,14 @@ pub(crate) enum Remedy {
 pub(crate) fn remedy_of(
     alloc: Global,
     host: &Host,
+    no_split: bool,
     sizes: &[Size<'_>],
     fault: &PlanFault,
 ) -> Result<Remedy, Fault> {
     match fault {
         PlanFault::NoMemory => Err(Fault::NoMemory),
         PlanFault::NoPeriod { vcpu } => latency_for(alloc, host, *vcpu),
-        PlanFault::NoRoom { .. } => cores_for(alloc, host, sizes),
+        PlanFault::NoRoom { .. } => cores_for(alloc, host, no_split, sizes),
     }
 }
 
@@ -49,10 +51,16 @@ fn latency_for(alloc: Global, host: &Host, vcpu: VcpuNo) -> Result<Remedy, Fault
     })
 }
 
-// The fewest cores above the host's with which the sizes have a plan, if some have.
-fn cores_for(alloc: Global, host: &Host, sizes: &[Size<'_>]) -> Result<Remedy, Fault> {
+/// The fewest cores above the host's with which the sizes have a plan, if some have: one that splits nobody where none may
+/// be split.
+pub(crate) fn cores_for(
+    alloc: Global,
+    host: &Host,
+    no_split: bool,
+    sizes: &[Size<'_>],
+) -> Result<Remedy, Fault> {
     for cores in host.cores + 1..MAX_CORES + 1 {
-        if fits_on(alloc, cores, host.tick_ns, sizes)? {
+        if fits_on(alloc, cores, host.tick_ns, no_split, sizes)? {
             return Ok(Remedy::Cores(cores));
         }
     }
@@ -60,7 +68,13 @@ fn cores_for(alloc: Global, host: &Host, sizes: &[Size<'_>]) -> Result<Remedy, F
 }
 
 // Whether the sizes have a plan on a host of so many cores.
-fn fits_on(alloc: Global, cores: u32, tick_ns: u32, sizes: &[Size<'_>]) -> Result<bool, Fault>
+fn fits_on(
+    alloc: Global,
+    cores: u32,
+    tick_ns: u32,
+    no_split: bool,
+    sizes: &[Size<'_>],
+) -> Result<bool, Fault>
     requires some_core { 1 ≤ cores }
     requires few_cores { cores ≤ MAX_CORES }
     requires least_tick { MIN_TICK_NS ≤ tick_ns }
@@ -71,7 +85,10 @@ fn fits_on(alloc: Global, cores: u32, tick_ns: u32, sizes: &[Size<'_>]) -> Resul
         Err(fault) => return Err(host_fault(alloc, sizes, fault)),
     };
     match plan(alloc, &host) {
-        Ok(_) => Ok(true),
+        Ok(planned) => {
+            let split = split_of(alloc, &host, &planned.tasks)?;
+            Ok(!no_split || split.is_empty())
+        }
         Err(PlanFault::NoMemory) => Err(Fault::NoMemory),
         Err(_) => Ok(false),
     }

@@ -201,6 +201,25 @@ pub enum Fault {
     SameGuest {
         name: String,
     },
+    #[error("--cpus is a list of CPUs from 0 to 8191, as 1-23 or 2,4,6-46:2, and not '{text}'")]
+    BadCpus {
+        text: String,
+    },
+    #[error("--cpus has CPU {cpu} twice: each core is a CPU of its own")]
+    CpuTwice {
+        cpu: u32,
+    },
+    #[error("--cpus has {cpus} CPUs, and the plan has {cores} cores: name a CPU for each core")]
+    FewCpus {
+        cpus: usize,
+        cores: u32,
+    },
+    #[error("--cores is {cores}, and a host has 32 cores or fewer: a machine with more is a host for each of its memory nodes, as docs/FLEET.md says")]
+    ManyCores {
+        cores: u32,
+    },
+    #[error("--cpus and --first-cpu both say which CPUs the cores are: name one")]
+    TwoCpus,
     #[error("{place}line {line} is %%, which parts sections")]
     HasSeparator {
         place: String,
@@ -296,6 +315,11 @@ impl Fault {
             | Fault::NoFleet
             | Fault::OtherTexts
             | Fault::InputTwice
+            | Fault::BadCpus { .. }
+            | Fault::CpuTwice { .. }
+            | Fault::FewCpus { .. }
+            | Fault::TwoCpus
+            | Fault::ManyCores { .. }
             | Fault::TwoInputs => 1,
             Fault::Unread { .. } | Fault::ReadFault { .. } => 4,
             Fault::WriteFault => 5,

@@ -80,7 +80,7 @@ fn parts_of(fault: &Unkept) -> (&'static str, u32, &'static str) {
         Unkept::Split(v) => (
             "vcpu ",
             v.0,
-            " is split, and each has to stay on one core there",
+            " is split, and each has to stay on one core there; take more cores or fewer VMs, as fit and place do with --no-split, or export scx, whose tables split vCPUs",
         ),
         Unkept::Unlike(v) => (
             "vcpu ",

@@ -5,3 +5,4 @@ pub mod LineLemmas
 pub mod PeriodLemmas
 pub mod RoomLemmas
 pub mod SupplyLemmas
+mod CpuListLemmas

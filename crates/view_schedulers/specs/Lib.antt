@@ -1,4 +1,5 @@
 pub mod Budgets
+pub mod CpuLists
 pub mod Fits
 pub mod Guests
 pub mod LibvirtLines

@@ -11,6 +11,7 @@ use Rattle.view_schedulers.specs.declared.heads.TheConstants.{ADMITTED, ADMIT_AL
 use Rattle.view_schedulers.specs.declared.scheduler.Scheduler.{Scheduler}
 use Rattle.view_schedulers.specs.declared.scheduler.Scheduler.TheVariants.{Rtds, Deadline, FullDeadline, Quota}
 use Rattle.view_schedulers.specs.Budgets.{budget_on, period_on}
+use Rattle.view_schedulers.specs.CpuLists.{cpu_at}
 use Rattle.view_schedulers.specs.Guests.{guest_number, guest_of}
 use Rattle.view_schedulers.specs.Reserved.{is_capped}
 
@@ -51,22 +52,22 @@ abbrev pub extra_of : Bool → ℕ
 extra_of true = 0
 extra_of false = 1
 
--- the lines of a vCPU for Xen's RTDS, where core 0 is the first CPU and a tick has so many nanoseconds
-abbrev pub rtds_of : ℕ → ℕ → List Vcpu → List ℕ → Task → List ℕ
-rtds_of first tick host name t = pin_line (guest_of name) (guest_number name) (first + t.home)
+-- the lines of a vCPU for Xen's RTDS, where the cores are these CPUs and a tick has so many nanoseconds
+abbrev pub rtds_of : List ℕ → ℕ → List Vcpu → List ℕ → Task → List ℕ
+rtds_of cpus tick host name t = pin_line (guest_of name) (guest_number name) (cpu_at cpus t.home)
     ++ rtds_line (guest_of name) (guest_number name) (period_on Rtds tick t) (budget_on Rtds tick t)
     (extra_of (is_capped host name))
 
--- the text for Xen's RTDS of a plan of these vCPUs, where core 0 is the first CPU and a tick has so many
+-- the text for Xen's RTDS of a plan of these vCPUs, where the cores are these CPUs and a tick has so many
 -- nanoseconds
-abbrev pub rtds_text_of : ℕ → ℕ → List Vcpu → ℕ → List (List ℕ) → List Task → List ℕ
-rtds_text_of first tick host cores names tasks = RTDS_HEAD.now ++ (plan_comment cores (length tasks) tick first
-    ++ texts_below (each_vcpu_text (rtds_of first tick host) names tasks) (length tasks))
+abbrev pub rtds_text_of : List ℕ → ℕ → List Vcpu → ℕ → List (List ℕ) → List Task → List ℕ
+rtds_text_of cpus tick host cores names tasks = RTDS_HEAD.now ++ (plan_comment cores (length tasks) tick (cpu_at cpus 0)
+    ++ texts_below (each_vcpu_text (rtds_of cpus tick host) names tasks) (length tasks))
 
 -- the text for Xen's RTDS of the plan that a view shows
-abbrev pub rtds_text : ℕ → ℕ → List Vcpu → View → List ℕ
-rtds_text first tick host view =
-    rtds_text_of first tick host view.cores view.names.items view.tasks.items
+abbrev pub rtds_text : List ℕ → ℕ → List Vcpu → View → List ℕ
+rtds_text cpus tick host view =
+    rtds_text_of cpus tick host view.cores view.names.items view.tasks.items
 
 -- ---- Linux
 
@@ -88,17 +89,17 @@ chrt_line period budget = codes "chrt --deadline --sched-runtime " ++ (decimal b
     ++ codes " --pid 0 \"$task\"\n")))))
 
 -- the lines that make the thread of the vCPU of this name a deadline task on the CPU of its home
-abbrev pub deadline_of : Scheduler → ℕ → ℕ → List ℕ → Task → List ℕ
-deadline_of s first tick name t = into_line (guest_of name) (guest_number name) (first + t.home)
+abbrev pub deadline_of : Scheduler → List ℕ → ℕ → List ℕ → Task → List ℕ
+deadline_of s cpus tick name t = into_line (guest_of name) (guest_number name) (cpu_at cpus t.home)
     ++ chrt_line (period_on s tick t) (budget_on s tick t)
 
 -- the CPU that a core is, after a space
-abbrev pub cpu_word : ℕ → ℕ → List ℕ
-cpu_word first core = codes " " ++ decimal (first + core)
+abbrev pub cpu_word : List ℕ → ℕ → List ℕ
+cpu_word cpus core = codes " " ++ decimal (cpu_at cpus core)
 
--- the line that names the CPUs of so many cores, from the first CPU on
-abbrev pub cpus_line : ℕ → ℕ → List ℕ
-cpus_line first cores = codes "cpus=\"" ++ (texts_below (cpu_word first) cores ++ codes "\"\n")
+-- the line that names the CPUs of so many cores
+abbrev pub cpus_line : List ℕ → ℕ → List ℕ
+cpus_line cpus cores = codes "cpus=\"" ++ (texts_below (cpu_word cpus) cores ++ codes "\"\n")
 
 -- how much of a CPU the kernel admits, as the line that says so
 abbrev pub admitted_part : Scheduler → List ℕ
@@ -107,14 +108,14 @@ admitted_part Deadline = ADMITTED.now
 admitted_part FullDeadline = ADMIT_ALL.now
 admitted_part Quota = ADMITTED.now
 
--- the text for deadline tasks of a plan of these vCPUs, where core 0 is the first CPU and a tick has so many
+-- the text for deadline tasks of a plan of these vCPUs, where the cores are these CPUs and a tick has so many
 -- nanoseconds
-abbrev pub deadline_text_of : Scheduler → ℕ → ℕ → ℕ → List (List ℕ) → List Task → List ℕ
-deadline_text_of s first tick cores names tasks = shell_head DEADLINE_HEAD.now
-    ++ (plan_comment cores (length tasks) tick first ++ (admitted_part s ++ (cpus_line first cores ++ (PARTITIONS.now
-    ++ texts_below (each_vcpu_text (deadline_of s first tick) names tasks) (length tasks)))))
+abbrev pub deadline_text_of : Scheduler → List ℕ → ℕ → ℕ → List (List ℕ) → List Task → List ℕ
+deadline_text_of s cpus tick cores names tasks = shell_head DEADLINE_HEAD.now
+    ++ (plan_comment cores (length tasks) tick (cpu_at cpus 0) ++ (admitted_part s ++ (cpus_line cpus cores ++ (PARTITIONS.now
+    ++ texts_below (each_vcpu_text (deadline_of s cpus tick) names tasks) (length tasks)))))
 
 -- the text for deadline tasks of the plan that a view shows
-abbrev pub deadline_text : Scheduler → ℕ → ℕ → View → List ℕ
-deadline_text s first tick view =
-    deadline_text_of s first tick view.cores view.names.items view.tasks.items
+abbrev pub deadline_text : Scheduler → List ℕ → ℕ → View → List ℕ
+deadline_text s cpus tick view =
+    deadline_text_of s cpus tick view.cores view.names.items view.tasks.items

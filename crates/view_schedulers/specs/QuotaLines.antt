@@ -7,6 +7,7 @@ use Rattle.view_doc.specs.declared.view.View.{View}
 use Rattle.view_schedulers.specs.declared.heads.TheConstants.{CGROUP_HEAD, GROUPS}
 use Rattle.view_schedulers.specs.declared.scheduler.Scheduler.TheVariants.{Quota}
 use Rattle.view_schedulers.specs.Budgets.{budget_on, period_on, weight_of}
+use Rattle.view_schedulers.specs.CpuLists.{cpu_at}
 use Rattle.view_schedulers.specs.Guests.{guest_number, guest_of}
 use Rattle.view_schedulers.specs.Lines.{each_vcpu_text, plan_comment, shell_head}
 
@@ -21,18 +22,18 @@ unfoldable pub max_lines : ℕ → ℕ → ℕ → List ℕ
 max_lines period budget weight = codes "echo " ++ (decimal budget ++ (codes " " ++ (decimal period
     ++ (codes " > \"$own/cpu.max\"\necho " ++ (decimal weight ++ codes " > \"$own/cpu.weight\"\n")))))
 
--- the lines of a vCPU, with a tick of so many nanoseconds, where core 0 is the first CPU
-abbrev pub quota_of : ℕ → ℕ → List ℕ → Task → List ℕ
-quota_of first tick name t = own_lines (guest_of name) (guest_number name) (first + t.home)
+-- the lines of a vCPU, with a tick of so many nanoseconds, where the cores are these CPUs
+abbrev pub quota_of : List ℕ → ℕ → List ℕ → Task → List ℕ
+quota_of cpus tick name t = own_lines (guest_of name) (guest_number name) (cpu_at cpus t.home)
     ++ max_lines (period_on Quota tick t) (budget_on Quota tick t) (weight_of t)
 
--- the text for quotas of a plan of these vCPUs, where core 0 is the first CPU and a tick has so many
+-- the text for quotas of a plan of these vCPUs, where the cores are these CPUs and a tick has so many
 -- nanoseconds
-abbrev pub cgroup_text_of : ℕ → ℕ → ℕ → List (List ℕ) → List Task → List ℕ
-cgroup_text_of first tick cores names tasks = shell_head CGROUP_HEAD.now
-    ++ (plan_comment cores (length tasks) tick first ++ (GROUPS.now
-    ++ texts_below (each_vcpu_text (quota_of first tick) names tasks) (length tasks)))
+abbrev pub cgroup_text_of : List ℕ → ℕ → ℕ → List (List ℕ) → List Task → List ℕ
+cgroup_text_of cpus tick cores names tasks = shell_head CGROUP_HEAD.now
+    ++ (plan_comment cores (length tasks) tick (cpu_at cpus 0) ++ (GROUPS.now
+    ++ texts_below (each_vcpu_text (quota_of cpus tick) names tasks) (length tasks)))
 
 -- the text for quotas of the plan that a view shows
-abbrev pub cgroup_text : ℕ → ℕ → View → List ℕ
-cgroup_text first tick view = cgroup_text_of first tick view.cores view.names.items view.tasks.items
+abbrev pub cgroup_text : List ℕ → ℕ → View → List ℕ
+cgroup_text cpus tick view = cgroup_text_of cpus tick view.cores view.names.items view.tasks.items

@@ -4,10 +4,12 @@
 //! `specs/Budgets.antt` has the arithmetic, `specs/Unkept.antt` the refusals and `specs/Supply.antt` what a scheduler
 //! keeps that gives each vCPU its budget in each of its periods. `specs/Fits.antt` has cores that are just full, which
 //! aren't refused. The texts are those of `specs/Lines.antt`,
-//! `specs/QuotaLines.antt` and `specs/LibvirtLines.antt`.
+//! `specs/QuotaLines.antt` and `specs/LibvirtLines.antt`. The CPUs that the cores are may be given as a list, whose form
+//! `specs/CpuLists.antt` defines.
 #![tactic(auto)]
 
 mod budget;
+mod cpu_list;
 mod guest;
 mod heads;
 mod laws;
@@ -20,6 +22,7 @@ mod scheduler;
 mod unkept;
 mod unlike;
 
+pub use cpu_list::{CpuListFault, cpus_of};
 pub use laws::an_exact_fit_is_not_overbooked;
 pub use libvirt::write_libvirt;
 pub use lines::{write_deadline, write_rtds};

@@ -19,65 +19,58 @@ use tab_words::{TextPiece, put_pieces};
 use view_doc::{Task, View};
 
 /// Writes the commands of virsh that pin a plan's vCPUs and give each guest a period and a quota in
-/// microseconds, and in comments the part of each guest's XML that says the same. `first_cpu` is the
-/// CPU that core 0 is, and a tick has so many nanoseconds.
+/// microseconds, and in comments the part of each guest's XML that says the same. `cpus` has the
+/// CPU of each core by its number, and a tick has so many nanoseconds.
 ///
 /// A fault leaves a prefix of the text in the sink. Nothing is settled, and nothing is allocated.
 pub fn write_libvirt<K: Sink>(
     sink: &mut K,
-    first_cpu: u32,
+    cpus: &[u32],
     tick_ns: u32,
     view: &View,
 ) -> Result<(), WriteFault>
-    ensures { Writes (K.state sink.old) (K.state sink.new) (libvirt_text first_cpu tick_ns view.now) result }
+    ensures { Writes (K.state sink.old) (K.state sink.new) (libvirt_text cpus.now tick_ns view.now) result }
 {
-    put_libvirt_text(
-        sink,
-        first_cpu,
-        tick_ns,
-        view.cores,
-        &view.names,
-        &view.tasks,
-    )
+    put_libvirt_text(sink, cpus, tick_ns, view.cores, &view.names, &view.tasks)
 }
 
 // Writes the text of a plan of these vCPUs.
 fn put_libvirt_text<K: Sink>(
     sink: &mut K,
-    first_cpu: u32,
+    cpus: &[u32],
     tick_ns: u32,
     cores: u32,
     names: &[Name],
     tasks: &[Task],
 ) -> Result<(), WriteFault>
     ensures { Writes (K.state sink.old) (K.state sink.new)
-        (libvirt_text_of first_cpu tick_ns cores names.now tasks.now) result }
+        (libvirt_text_of cpus.now tick_ns cores names.now tasks.now) result }
 {
     write_all(sink, LIBVIRT_HEAD)?;
-    put_made(sink, cores, tasks, tick_ns, first_cpu)?;
-    put_libvirt_vcpus(sink, first_cpu, tick_ns, names, tasks)
+    put_made(sink, cores, tasks, tick_ns, cpus)?;
+    put_libvirt_vcpus(sink, cpus, tick_ns, names, tasks)
 }
 
 // Writes the lines of each vCPU.
 fn put_libvirt_vcpus<K: Sink>(
     sink: &mut K,
-    first_cpu: u32,
+    cpus: &[u32],
     tick_ns: u32,
     names: &[Name],
     tasks: &[Task],
 ) -> Result<(), WriteFault>
     ensures { Writes (K.state sink.old) (K.state sink.new)
-        (texts_below (libvirt_at first_cpu tick_ns names.now tasks.now) (length tasks.now)) result }
+        (texts_below (libvirt_at cpus.now tick_ns names.now tasks.now) (length tasks.now)) result }
 {
     for vcpu in 0..tasks.len() {
-        put_libvirt_at(sink, first_cpu, tick_ns, names, tasks, vcpu)?;
+        put_libvirt_at(sink, cpus, tick_ns, names, tasks, vcpu)?;
     }
     Ok(())
 }
 
 fn put_libvirt_at<K: Sink>(
     sink: &mut K,
-    first_cpu: u32,
+    cpus: &[u32],
     tick_ns: u32,
     names: &[Name],
     tasks: &[Task],
@@ -85,40 +78,35 @@ fn put_libvirt_at<K: Sink>(
 ) -> Result<(), WriteFault>
     requires { vcpu < length tasks.now }
     ensures { Writes (K.state sink.old) (K.state sink.new)
-        (libvirt_at first_cpu tick_ns names.now tasks.now vcpu) result }
+        (libvirt_at cpus.now tick_ns names.now tasks.now vcpu) result }
 {
-    put_virsh_at(sink, first_cpu, names, tasks, vcpu)?;
-    put_guest_at(sink, first_cpu, tick_ns, names, tasks, vcpu)
+    put_virsh_at(sink, cpus, names, tasks, vcpu)?;
+    put_guest_at(sink, cpus, tick_ns, names, tasks, vcpu)
 }
 
 fn put_virsh_at<K: Sink>(
     sink: &mut K,
-    first_cpu: u32,
+    cpus: &[u32],
     names: &[Name],
     tasks: &[Task],
     vcpu: usize,
 ) -> Result<(), WriteFault>
     requires { vcpu < length tasks.now }
     ensures { Writes (K.state sink.old) (K.state sink.new)
-        (each_vcpu_text (virsh_of first_cpu) names.now tasks.now vcpu) result }
+        (each_vcpu_text (virsh_of cpus.now) names.now tasks.now vcpu) result }
 {
-    put_virsh(sink, first_cpu, name_at(names, vcpu), &tasks[vcpu])
+    put_virsh(sink, cpus, name_at(names, vcpu), &tasks[vcpu])
 }
 
 fn put_virsh<K: Sink>(
     sink: &mut K,
-    first_cpu: u32,
+    cpus: &[u32],
     name: &[u8],
     task: &Task,
 ) -> Result<(), WriteFault>
-    ensures { Writes (K.state sink.old) (K.state sink.new) (virsh_of first_cpu name.now task.now) result }
+    ensures { Writes (K.state sink.old) (K.state sink.new) (virsh_of cpus.now name.now task.now) result }
 {
-    put_virsh_line(
-        sink,
-        guest_of(name),
-        number_of(name),
-        cpu_of(first_cpu, task),
-    )
+    put_virsh_line(sink, guest_of(name), number_of(name), cpu_of(cpus, task))
 }
 
 #[tactic(auto, unfolding(crate::specs::LibvirtLines::virsh_line))]
@@ -148,7 +136,7 @@ fn put_virsh_line<'a, K: Sink>(
 #[tactic(auto, using(tab_io::proofs::SinkLemmas::writes_nothing))]
 fn put_guest_at<K: Sink>(
     sink: &mut K,
-    first_cpu: u32,
+    cpus: &[u32],
     tick_ns: u32,
     names: &[Name],
     tasks: &[Task],
@@ -157,13 +145,13 @@ fn put_guest_at<K: Sink>(
     requires { vcpu < length tasks.now }
     ensures { Writes (K.state sink.old) (K.state sink.new)
         (if has_one_below names.now (guest_of (name_at names.now vcpu)) vcpu then []
-        else each_vcpu_text (guest_lines first_cpu tick_ns names.now tasks.now) names.now tasks.now vcpu) result }
+        else each_vcpu_text (guest_lines cpus.now tick_ns names.now tasks.now) names.now tasks.now vcpu) result }
 {
     let name = name_at(names, vcpu);
     if has_one_below(names, guest_of(name), vcpu) {
         return Ok(());
     }
-    put_guest(sink, first_cpu, tick_ns, names, tasks, name, &tasks[vcpu])
+    put_guest(sink, cpus, tick_ns, names, tasks, name, &tasks[vcpu])
 }
 
 // Whether one of the vCPUs below this number is the guest's.
@@ -187,7 +175,7 @@ fn is_guests(names: &[Name], guest: &[u8], vcpu: usize) -> bool
 
 fn put_guest<K: Sink>(
     sink: &mut K,
-    first_cpu: u32,
+    cpus: &[u32],
     tick_ns: u32,
     names: &[Name],
     tasks: &[Task],
@@ -195,17 +183,17 @@ fn put_guest<K: Sink>(
     task: &Task,
 ) -> Result<(), WriteFault>
     ensures { Writes (K.state sink.old) (K.state sink.new)
-        (guest_lines first_cpu tick_ns names.now tasks.now name.now task.now) result }
+        (guest_lines cpus.now tick_ns names.now tasks.now name.now task.now) result }
 {
     let guest = guest_of(name);
     let period = period_in(Scheduler::Quota, tick_ns, task);
     let budget = budget_in(Scheduler::Quota, tick_ns, task);
-    put_guest_lines(sink, first_cpu, names, tasks, guest, period, budget)
+    put_guest_lines(sink, cpus, names, tasks, guest, period, budget)
 }
 
 fn put_guest_lines<K: Sink>(
     sink: &mut K,
-    first_cpu: u32,
+    cpus: &[u32],
     names: &[Name],
     tasks: &[Task],
     guest: &[u8],
@@ -214,10 +202,10 @@ fn put_guest_lines<K: Sink>(
 ) -> Result<(), WriteFault>
     ensures { Writes (K.state sink.old) (K.state sink.new)
         (schedinfo_line guest.now period budget
-        ++ cputune_line first_cpu names.now tasks.now guest.now period budget) result }
+        ++ cputune_line cpus.now names.now tasks.now guest.now period budget) result }
 {
     put_schedinfo(sink, guest, period, budget)?;
-    put_cputune(sink, first_cpu, names, tasks, guest, period, budget)
+    put_cputune(sink, cpus, names, tasks, guest, period, budget)
 }
 
 #[tactic(auto, unfolding(crate::specs::LibvirtLines::schedinfo_line))]
@@ -245,7 +233,7 @@ fn put_schedinfo<'a, K: Sink>(
 
 fn put_cputune<K: Sink>(
     sink: &mut K,
-    first_cpu: u32,
+    cpus: &[u32],
     names: &[Name],
     tasks: &[Task],
     guest: &[u8],
@@ -253,33 +241,33 @@ fn put_cputune<K: Sink>(
     budget: u64,
 ) -> Result<(), WriteFault>
     ensures { Writes (K.state sink.old) (K.state sink.new)
-        (cputune_line first_cpu names.now tasks.now guest.now period budget) result }
+        (cputune_line cpus.now names.now tasks.now guest.now period budget) result }
 {
     write_all(sink, b"# <cputune>")?;
-    put_pin_parts(sink, first_cpu, names, tasks, guest)?;
+    put_pin_parts(sink, cpus, names, tasks, guest)?;
     put_quota_part(sink, period, budget)
 }
 
 // Writes the CPUs of a guest's vCPUs.
 fn put_pin_parts<K: Sink>(
     sink: &mut K,
-    first_cpu: u32,
+    cpus: &[u32],
     names: &[Name],
     tasks: &[Task],
     guest: &[u8],
 ) -> Result<(), WriteFault>
     ensures { Writes (K.state sink.old) (K.state sink.new)
-        (texts_below (each_vcpu_text (pin_part_of first_cpu guest.now) names.now tasks.now) (length tasks.now)) result }
+        (texts_below (each_vcpu_text (pin_part_of cpus.now guest.now) names.now tasks.now) (length tasks.now)) result }
 {
     for vcpu in 0..tasks.len() {
-        put_pin_part_at(sink, first_cpu, names, tasks, guest, vcpu)?;
+        put_pin_part_at(sink, cpus, names, tasks, guest, vcpu)?;
     }
     Ok(())
 }
 
 fn put_pin_part_at<K: Sink>(
     sink: &mut K,
-    first_cpu: u32,
+    cpus: &[u32],
     names: &[Name],
     tasks: &[Task],
     guest: &[u8],
@@ -287,24 +275,24 @@ fn put_pin_part_at<K: Sink>(
 ) -> Result<(), WriteFault>
     requires { vcpu < length tasks.now }
     ensures { Writes (K.state sink.old) (K.state sink.new)
-        (each_vcpu_text (pin_part_of first_cpu guest.now) names.now tasks.now vcpu) result }
+        (each_vcpu_text (pin_part_of cpus.now guest.now) names.now tasks.now vcpu) result }
 {
-    put_pin_part_of(sink, first_cpu, guest, name_at(names, vcpu), &tasks[vcpu])
+    put_pin_part_of(sink, cpus, guest, name_at(names, vcpu), &tasks[vcpu])
 }
 
 #[tactic(auto, using(tab_io::proofs::SinkLemmas::writes_nothing))]
 fn put_pin_part_of<K: Sink>(
     sink: &mut K,
-    first_cpu: u32,
+    cpus: &[u32],
     guest: &[u8],
     name: &[u8],
     task: &Task,
 ) -> Result<(), WriteFault>
     ensures { Writes (K.state sink.old) (K.state sink.new)
-        (pin_part_of first_cpu guest.now name.now task.now) result }
+        (pin_part_of cpus.now guest.now name.now task.now) result }
 {
     if guest_of(name) == guest {
-        put_pin_part(sink, number_of(name), cpu_of(first_cpu, task))
+        put_pin_part(sink, number_of(name), cpu_of(cpus, task))
     } else {
         Ok(())
     }

@@ -1,9 +1,11 @@
 ghost use Rattle.std.specs.Prelude.{◌≡◌, ◌+◌, ◌<◌, ◌≤◌, ◌++◌, ◌^◌, codes, length};
 ghost use Rattle.tab_io.specs.Sinks.{Writes};
 ghost use Rattle.tab_words.specs.Texts.{texts_below};
+ghost use Rattle.view_schedulers.specs.CpuLists.{cpu_at};
 ghost use Rattle.view_schedulers.specs.Lines.{admitted_part, chrt_line, cpu_word, cpus_line, deadline_of, deadline_text, deadline_text_of, each_vcpu_text, extra_of, into_line, pin_line, plan_comment, rtds_line, rtds_of, rtds_text, rtds_text_of, shell_head};
 
 use crate::budget::{budget_in, period_in};
+use crate::cpu_list::cpu_at;
 use crate::guest::{guest_of, number_of};
 use crate::heads::{ADMIT_ALL, ADMITTED, DEADLINE_HEAD, PARTITIONS, RTDS_HEAD, SHELL_HEAD};
 use crate::reserved::is_capped;
@@ -15,21 +17,21 @@ use tab_words::{TextPiece, put_pieces};
 use view_doc::{Task, View};
 
 /// Writes the lines that put a plan's vCPUs on Xen's RTDS: for each a pin to one CPU, and a period and a budget in
-/// microseconds. `first_cpu` is the CPU that core 0 is, and a tick has so many nanoseconds.
+/// microseconds. `cpus` has the CPU of each core by its number, and a tick has so many nanoseconds.
 ///
 /// A fault leaves a prefix of the text in the sink. Nothing is settled, and nothing is allocated.
 pub fn write_rtds<K: Sink>(
     sink: &mut K,
-    first_cpu: u32,
+    cpus: &[u32],
     tick_ns: u32,
     host: &[Vcpu],
     view: &View,
 ) -> Result<(), WriteFault>
-    ensures { Writes (K.state sink.old) (K.state sink.new) (rtds_text first_cpu tick_ns host.now view.now) result }
+    ensures { Writes (K.state sink.old) (K.state sink.new) (rtds_text cpus.now tick_ns host.now view.now) result }
 {
     put_rtds_text(
         sink,
-        first_cpu,
+        cpus,
         tick_ns,
         host,
         view.cores,
@@ -41,7 +43,7 @@ pub fn write_rtds<K: Sink>(
 // Writes the text of a plan of these vCPUs.
 fn put_rtds_text<K: Sink>(
     sink: &mut K,
-    first_cpu: u32,
+    cpus: &[u32],
     tick_ns: u32,
     host: &[Vcpu],
     cores: u32,
@@ -49,32 +51,32 @@ fn put_rtds_text<K: Sink>(
     tasks: &[Task],
 ) -> Result<(), WriteFault>
     ensures { Writes (K.state sink.old) (K.state sink.new)
-        (rtds_text_of first_cpu tick_ns host.now cores names.now tasks.now) result }
+        (rtds_text_of cpus.now tick_ns host.now cores names.now tasks.now) result }
 {
     write_all(sink, RTDS_HEAD)?;
-    put_made(sink, cores, tasks, tick_ns, first_cpu)?;
-    put_rtds_vcpus(sink, first_cpu, tick_ns, host, names, tasks)
+    put_made(sink, cores, tasks, tick_ns, cpus)?;
+    put_rtds_vcpus(sink, cpus, tick_ns, host, names, tasks)
 }
 
 /// Writes the lines that make a plan's vCPUs deadline tasks of Linux: a partition for each core, and
-/// for each vCPU its way into that of its home, and a period and a budget in nanoseconds. `first_cpu`
-/// is the CPU that core 0 is, and a tick has so many nanoseconds.
+/// for each vCPU its way into that of its home, and a period and a budget in nanoseconds. `cpus`
+/// has the CPU of each core by its number, and a tick has so many nanoseconds.
 ///
 /// A fault leaves a prefix of the text in the sink. Nothing is settled, and nothing is allocated.
 pub fn write_deadline<K: Sink>(
     sink: &mut K,
     scheduler: Scheduler,
-    first_cpu: u32,
+    cpus: &[u32],
     tick_ns: u32,
     view: &View,
 ) -> Result<(), WriteFault>
     ensures { Writes (K.state sink.old) (K.state sink.new)
-        (deadline_text scheduler first_cpu tick_ns view.now) result }
+        (deadline_text scheduler cpus.now tick_ns view.now) result }
 {
     put_deadline_text(
         sink,
         scheduler,
-        first_cpu,
+        cpus,
         tick_ns,
         view.cores,
         &view.names,
@@ -86,21 +88,21 @@ pub fn write_deadline<K: Sink>(
 fn put_deadline_text<K: Sink>(
     sink: &mut K,
     scheduler: Scheduler,
-    first_cpu: u32,
+    cpus: &[u32],
     tick_ns: u32,
     cores: u32,
     names: &[Name],
     tasks: &[Task],
 ) -> Result<(), WriteFault>
     ensures { Writes (K.state sink.old) (K.state sink.new)
-        (deadline_text_of scheduler first_cpu tick_ns cores names.now tasks.now) result }
+        (deadline_text_of scheduler cpus.now tick_ns cores names.now tasks.now) result }
 {
     put_head(sink, DEADLINE_HEAD)?;
-    put_made(sink, cores, tasks, tick_ns, first_cpu)?;
+    put_made(sink, cores, tasks, tick_ns, cpus)?;
     put_admitted(sink, scheduler)?;
-    put_cpus_line(sink, first_cpu, cores)?;
+    put_cpus_line(sink, cpus, cores)?;
     write_all(sink, PARTITIONS)?;
-    put_deadline_vcpus(sink, scheduler, first_cpu, tick_ns, names, tasks)
+    put_deadline_vcpus(sink, scheduler, cpus, tick_ns, names, tasks)
 }
 
 // Writes the comments of a text that speaks of threads, and what finds these.
@@ -134,10 +136,10 @@ pub(crate) fn put_made<K: Sink>(
     cores: u32,
     tasks: &[Task],
     tick_ns: u32,
-    first_cpu: u32,
+    cpus: &[u32],
 ) -> Result<(), WriteFault>
     ensures { Writes (K.state sink.old) (K.state sink.new)
-        (plan_comment cores (length tasks.now) tick_ns first_cpu) result }
+        (plan_comment cores (length tasks.now) tick_ns (cpu_at cpus.now 0)) result }
 {
     put_pieces(
         sink,
@@ -149,60 +151,60 @@ pub(crate) fn put_made<K: Sink>(
             TextPiece::Text(b" vCPUs, in ticks of "),
             TextPiece::Number(tick_ns),
             TextPiece::Text(b" ns. Its core 0 is CPU "),
-            TextPiece::Number(first_cpu),
+            TextPiece::Wide(cpu_at(cpus, 0)),
             TextPiece::Text(b".\n"),
         ],
     )
 }
 
 // Writes the line of the CPUs of so many cores.
-fn put_cpus_line<K: Sink>(sink: &mut K, first_cpu: u32, cores: u32) -> Result<(), WriteFault>
-    ensures { Writes (K.state sink.old) (K.state sink.new) (cpus_line first_cpu cores) result }
+fn put_cpus_line<K: Sink>(sink: &mut K, cpus: &[u32], cores: u32) -> Result<(), WriteFault>
+    ensures { Writes (K.state sink.old) (K.state sink.new) (cpus_line cpus.now cores) result }
 {
     write_all(sink, b"cpus=\"")?;
-    put_cpus(sink, first_cpu, cores)?;
+    put_cpus(sink, cpus, cores)?;
     write_all(sink, b"\"\n")
 }
 
 // Writes the CPUs of so many cores.
-fn put_cpus<K: Sink>(sink: &mut K, first_cpu: u32, cores: u32) -> Result<(), WriteFault>
-    ensures { Writes (K.state sink.old) (K.state sink.new) (texts_below (cpu_word first_cpu) cores) result }
+fn put_cpus<K: Sink>(sink: &mut K, cpus: &[u32], cores: u32) -> Result<(), WriteFault>
+    ensures { Writes (K.state sink.old) (K.state sink.new) (texts_below (cpu_word cpus.now) cores) result }
 {
     for core in 0..cores {
-        put_cpu(sink, first_cpu, core)?;
+        put_cpu(sink, cpus, core)?;
     }
     Ok(())
 }
 
-fn put_cpu<K: Sink>(sink: &mut K, first_cpu: u32, core: u32) -> Result<(), WriteFault>
-    ensures { Writes (K.state sink.old) (K.state sink.new) (cpu_word first_cpu core) result }
+fn put_cpu<K: Sink>(sink: &mut K, cpus: &[u32], core: u32) -> Result<(), WriteFault>
+    ensures { Writes (K.state sink.old) (K.state sink.new) (cpu_word cpus.now core) result }
 {
-    let cpu = u64::from(first_cpu) + u64::from(core);
+    let cpu = cpu_at(cpus, core);
     put_pieces(sink, &[TextPiece::Text(b" "), TextPiece::Wide(cpu)])
 }
 
 // Writes the lines of each vCPU.
 fn put_rtds_vcpus<K: Sink>(
     sink: &mut K,
-    first_cpu: u32,
+    cpus: &[u32],
     tick_ns: u32,
     host: &[Vcpu],
     names: &[Name],
     tasks: &[Task],
 ) -> Result<(), WriteFault>
     ensures { Writes (K.state sink.old) (K.state sink.new)
-        (texts_below (each_vcpu_text (rtds_of first_cpu tick_ns host.now) names.now tasks.now)
+        (texts_below (each_vcpu_text (rtds_of cpus.now tick_ns host.now) names.now tasks.now)
         (length tasks.now)) result }
 {
     for vcpu in 0..tasks.len() {
-        put_rtds_at(sink, first_cpu, tick_ns, host, names, tasks, vcpu)?;
+        put_rtds_at(sink, cpus, tick_ns, host, names, tasks, vcpu)?;
     }
     Ok(())
 }
 
 fn put_rtds_at<K: Sink>(
     sink: &mut K,
-    first_cpu: u32,
+    cpus: &[u32],
     tick_ns: u32,
     host: &[Vcpu],
     names: &[Name],
@@ -211,29 +213,29 @@ fn put_rtds_at<K: Sink>(
 ) -> Result<(), WriteFault>
     requires { vcpu < length tasks.now }
     ensures { Writes (K.state sink.old) (K.state sink.new)
-        (each_vcpu_text (rtds_of first_cpu tick_ns host.now) names.now tasks.now vcpu) result }
+        (each_vcpu_text (rtds_of cpus.now tick_ns host.now) names.now tasks.now vcpu) result }
 {
     let name = name_at(names, vcpu);
-    put_rtds(sink, first_cpu, tick_ns, host, name, &tasks[vcpu])
+    put_rtds(sink, cpus, tick_ns, host, name, &tasks[vcpu])
 }
 
 fn put_rtds<K: Sink>(
     sink: &mut K,
-    first_cpu: u32,
+    cpus: &[u32],
     tick_ns: u32,
     host: &[Vcpu],
     name: &[u8],
     task: &Task,
 ) -> Result<(), WriteFault>
     ensures { Writes (K.state sink.old) (K.state sink.new)
-        (rtds_of first_cpu tick_ns host.now name.now task.now) result }
+        (rtds_of cpus.now tick_ns host.now name.now task.now) result }
 {
     let guest = guest_of(name);
     let number = number_of(name);
     let period = period_in(Scheduler::Rtds, tick_ns, task);
     let budget = budget_in(Scheduler::Rtds, tick_ns, task);
     let extra = extra_of(is_capped(host, name));
-    let cpu = cpu_of(first_cpu, task);
+    let cpu = cpu_of(cpus, task);
     put_rtds_lines(sink, guest, number, cpu, period, budget, extra)
 }
 
@@ -254,10 +256,10 @@ fn put_rtds_lines<'a, K: Sink>(
 }
 
 // The CPU of a task's home.
-pub(crate) fn cpu_of(first_cpu: u32, task: &Task) -> u64
-    ensures { result ≡ first_cpu + task.now.home }
+pub(crate) fn cpu_of(cpus: &[u32], task: &Task) -> u64
+    ensures { result ≡ cpu_at cpus.now task.now.home }
 {
-    u64::from(first_cpu) + u64::from(task.home.0)
+    cpu_at(cpus, task.home.0)
 }
 
 fn extra_of(capped: bool) -> u32
@@ -325,17 +327,17 @@ fn put_budget<'a, K: Sink>(
 fn put_deadline_vcpus<K: Sink>(
     sink: &mut K,
     scheduler: Scheduler,
-    first_cpu: u32,
+    cpus: &[u32],
     tick_ns: u32,
     names: &[Name],
     tasks: &[Task],
 ) -> Result<(), WriteFault>
     ensures { Writes (K.state sink.old) (K.state sink.new)
-        (texts_below (each_vcpu_text (deadline_of scheduler first_cpu tick_ns) names.now
+        (texts_below (each_vcpu_text (deadline_of scheduler cpus.now tick_ns) names.now
         tasks.now) (length tasks.now)) result }
 {
     for vcpu in 0..tasks.len() {
-        put_deadline_at(sink, scheduler, first_cpu, tick_ns, names, tasks, vcpu)?;
+        put_deadline_at(sink, scheduler, cpus, tick_ns, names, tasks, vcpu)?;
     }
     Ok(())
 }
@@ -343,7 +345,7 @@ fn put_deadline_vcpus<K: Sink>(
 fn put_deadline_at<K: Sink>(
     sink: &mut K,
     scheduler: Scheduler,
-    first_cpu: u32,
+    cpus: &[u32],
     tick_ns: u32,
     names: &[Name],
     tasks: &[Task],
@@ -351,29 +353,29 @@ fn put_deadline_at<K: Sink>(
 ) -> Result<(), WriteFault>
     requires { vcpu < length tasks.now }
     ensures { Writes (K.state sink.old) (K.state sink.new)
-        (each_vcpu_text (deadline_of scheduler first_cpu tick_ns) names.now tasks.now vcpu)
+        (each_vcpu_text (deadline_of scheduler cpus.now tick_ns) names.now tasks.now vcpu)
         result }
 {
     let name = name_at(names, vcpu);
-    put_deadline(sink, scheduler, first_cpu, tick_ns, name, &tasks[vcpu])
+    put_deadline(sink, scheduler, cpus, tick_ns, name, &tasks[vcpu])
 }
 
 fn put_deadline<K: Sink>(
     sink: &mut K,
     scheduler: Scheduler,
-    first_cpu: u32,
+    cpus: &[u32],
     tick_ns: u32,
     name: &[u8],
     task: &Task,
 ) -> Result<(), WriteFault>
     ensures { Writes (K.state sink.old) (K.state sink.new)
-        (deadline_of scheduler first_cpu tick_ns name.now task.now) result }
+        (deadline_of scheduler cpus.now tick_ns name.now task.now) result }
 {
     let guest = guest_of(name);
     let number = number_of(name);
     let period = period_in(scheduler, tick_ns, task);
     let budget = budget_in(scheduler, tick_ns, task);
-    let cpu = cpu_of(first_cpu, task);
+    let cpu = cpu_of(cpus, task);
     put_deadline_lines(sink, guest, number, cpu, period, budget)
 }
 

@@ -16,66 +16,59 @@ use tab_words::{TextPiece, put_pieces};
 use view_doc::{Task, View};
 
 /// Writes the lines that give a plan's vCPUs quotas of Linux's cgroups: for each a group of its own,
-/// with the CPU of its home, a quota and a period in microseconds, and a weight. `first_cpu` is the CPU
-/// that core 0 is, and a tick has so many nanoseconds.
+/// with the CPU of its home, a quota and a period in microseconds, and a weight. `cpus` has the CPU
+/// of each core by its number, and a tick has so many nanoseconds.
 ///
 /// A fault leaves a prefix of the text in the sink. Nothing is settled, and nothing is allocated.
 pub fn write_cgroup<K: Sink>(
     sink: &mut K,
-    first_cpu: u32,
+    cpus: &[u32],
     tick_ns: u32,
     view: &View,
 ) -> Result<(), WriteFault>
-    ensures { Writes (K.state sink.old) (K.state sink.new) (cgroup_text first_cpu tick_ns view.now) result }
+    ensures { Writes (K.state sink.old) (K.state sink.new) (cgroup_text cpus.now tick_ns view.now) result }
 {
-    put_cgroup_text(
-        sink,
-        first_cpu,
-        tick_ns,
-        view.cores,
-        &view.names,
-        &view.tasks,
-    )
+    put_cgroup_text(sink, cpus, tick_ns, view.cores, &view.names, &view.tasks)
 }
 
 // Writes the text of a plan of these vCPUs.
 fn put_cgroup_text<K: Sink>(
     sink: &mut K,
-    first_cpu: u32,
+    cpus: &[u32],
     tick_ns: u32,
     cores: u32,
     names: &[Name],
     tasks: &[Task],
 ) -> Result<(), WriteFault>
     ensures { Writes (K.state sink.old) (K.state sink.new)
-        (cgroup_text_of first_cpu tick_ns cores names.now tasks.now) result }
+        (cgroup_text_of cpus.now tick_ns cores names.now tasks.now) result }
 {
     put_head(sink, CGROUP_HEAD)?;
-    put_made(sink, cores, tasks, tick_ns, first_cpu)?;
+    put_made(sink, cores, tasks, tick_ns, cpus)?;
     write_all(sink, GROUPS)?;
-    put_quota_vcpus(sink, first_cpu, tick_ns, names, tasks)
+    put_quota_vcpus(sink, cpus, tick_ns, names, tasks)
 }
 
 // Writes the lines of each vCPU.
 fn put_quota_vcpus<K: Sink>(
     sink: &mut K,
-    first_cpu: u32,
+    cpus: &[u32],
     tick_ns: u32,
     names: &[Name],
     tasks: &[Task],
 ) -> Result<(), WriteFault>
     ensures { Writes (K.state sink.old) (K.state sink.new)
-        (texts_below (each_vcpu_text (quota_of first_cpu tick_ns) names.now tasks.now) (length tasks.now)) result }
+        (texts_below (each_vcpu_text (quota_of cpus.now tick_ns) names.now tasks.now) (length tasks.now)) result }
 {
     for vcpu in 0..tasks.len() {
-        put_quota_at(sink, first_cpu, tick_ns, names, tasks, vcpu)?;
+        put_quota_at(sink, cpus, tick_ns, names, tasks, vcpu)?;
     }
     Ok(())
 }
 
 fn put_quota_at<K: Sink>(
     sink: &mut K,
-    first_cpu: u32,
+    cpus: &[u32],
     tick_ns: u32,
     names: &[Name],
     tasks: &[Task],
@@ -83,26 +76,26 @@ fn put_quota_at<K: Sink>(
 ) -> Result<(), WriteFault>
     requires { vcpu < length tasks.now }
     ensures { Writes (K.state sink.old) (K.state sink.new)
-        (each_vcpu_text (quota_of first_cpu tick_ns) names.now tasks.now vcpu) result }
+        (each_vcpu_text (quota_of cpus.now tick_ns) names.now tasks.now vcpu) result }
 {
-    put_quota(sink, first_cpu, tick_ns, name_at(names, vcpu), &tasks[vcpu])
+    put_quota(sink, cpus, tick_ns, name_at(names, vcpu), &tasks[vcpu])
 }
 
 fn put_quota<K: Sink>(
     sink: &mut K,
-    first_cpu: u32,
+    cpus: &[u32],
     tick_ns: u32,
     name: &[u8],
     task: &Task,
 ) -> Result<(), WriteFault>
     ensures { Writes (K.state sink.old) (K.state sink.new)
-        (quota_of first_cpu tick_ns name.now task.now) result }
+        (quota_of cpus.now tick_ns name.now task.now) result }
 {
     let guest = guest_of(name);
     let number = number_of(name);
     let period = period_in(Scheduler::Quota, tick_ns, task);
     let budget = budget_in(Scheduler::Quota, tick_ns, task);
-    let cpu = cpu_of(first_cpu, task);
+    let cpu = cpu_of(cpus, task);
     put_quota_lines(sink, guest, number, cpu, period, budget, weight_of(task))
 }
 

@@ -27,7 +27,8 @@ use view_doc::{Stretch, Task, View};
 /// whether the plan keeps it, or dashes where no such vCPU is admitted. Where `tableau check` refuses the tables, its
 /// line is above all, and whether the plan keeps it is a question mark. A row for each core has its load
 /// and what is left of a round. The last line has how many vCPUs there are, their shares together, how full the
-/// cores are together, and how many of the admitted vCPUs have what they were promised. Times are in milliseconds, with three digits.
+/// cores are together, how many of the admitted vCPUs have what they were promised, and how many have slots on several cores.
+/// Times are in milliseconds, with three digits.
 ///
 /// A fault leaves a prefix of the text in the sink. Nothing is settled, and nothing is allocated.
 pub fn write_table<K: Sink>(

@@ -5,14 +5,15 @@ ghost use Rattle.view_cells.specs.CellTexts.{cell_text};
 ghost use Rattle.view_table.specs.Figures.{AreFigures};
 ghost use Rattle.view_table.specs.Given.{is_refused};
 ghost use Rattle.view_table.specs.Groups.{count_where};
+ghost use Rattle.view_table.specs.Loads.{has_slot_on};
 ghost use Rattle.view_table.specs.TableTexts.{end_text};
-ghost use Rattle.view_table.specs.Totals.{asked_below, asked_total, busy_below, full_of, given_below, has_all, is_share_asked, kept_count, plain_total, total_text};
+ghost use Rattle.view_table.specs.Totals.{asked_below, asked_total, busy_below, full_of, given_below, has_all, is_share_asked, is_split, cores_with, kept_count, plain_total, split_below, total_text};
 
 use crate::figures::{Figures, is_refused};
 use crate::groups::{asked_at, given_share, is_broken, ppm_at};
 use crate::rows::loads_of;
 use crate::table::{put_core_head, put_cores};
-use tab_core::{ROUND, Vcpu, WHOLE_PPM};
+use tab_core::{MAX_CORES, ROUND, Vcpu, WHOLE_PPM};
 use tab_io::{Sink, WriteFault};
 use view_cells::{Cell, put_cells};
 use view_doc::View;
@@ -53,7 +54,10 @@ fn put_total<K: Sink>(
     let given = given_below(view, figures);
     let full = full_of(busy_below(view), view.cores);
     match host {
-        None => put_plain_total(sink, view.tasks.len(), given, full),
+        None => {
+            let split = split_below(view, figures);
+            put_plain_total(sink, view.tasks.len(), given, full, split)
+        }
         Some(vcpus) => put_asked_total(sink, vcpus, view, figures, tick_ns, given, full),
     }
 }
@@ -64,8 +68,9 @@ fn put_plain_total<K: Sink>(
     vcpus: usize,
     given: u64,
     full: u64,
+    split: u64,
 ) -> Result<(), WriteFault>
-    ensures { Writes (K.state sink.old) (K.state sink.new) (plain_total vcpus given full) result }
+    ensures { Writes (K.state sink.old) (K.state sink.new) (plain_total vcpus given full split) result }
 {
     put_cells(
         sink,
@@ -76,7 +81,9 @@ fn put_plain_total<K: Sink>(
             Cell::Percent(0, given),
             Cell::Text(b" %, load "),
             Cell::Percent(0, full),
-            Cell::Text(b" %\n"),
+            Cell::Text(b" %, split "),
+            Cell::Count(0, split),
+            Cell::Text(b"\n"),
         ],
     )
 }
@@ -91,17 +98,20 @@ fn put_asked_total<K: Sink>(
     full: u64,
 ) -> Result<(), WriteFault>
     requires figures { AreFigures view.now figures.now }
+    requires few { view.now.cores ≤ MAX_CORES }
     requires vcpus { length view.now.tasks.items ≤ MAX_VCPUS }
     ensures { Writes (K.state sink.old) (K.state sink.new)
         (asked_total (length view.now.tasks.items) (asked_below vcpus.now view.now.names.items
         (length view.now.tasks.items)) given full (is_refused figures.now.refusal.items)
         (count_where (has_all tick_ns vcpus.now view.now.names.items view.now.slots.items)
         (length view.now.tasks.items)) (count_where (is_share_asked vcpus.now view.now.names.items)
+        (length view.now.tasks.items)) (split_below view.now.slots.items view.now.cores
         (length view.now.tasks.items))) result }
 {
     let asked = asked_below(view, vcpus);
     let kept = kept_below(view, vcpus, figures, tick_ns);
     let admitted = admitted_below(view, vcpus);
+    let split = split_below(view, figures);
     put_cells(
         sink,
         &[
@@ -117,6 +127,8 @@ fn put_asked_total<K: Sink>(
             kept_count(is_refused(figures), kept),
             Cell::Text(b" of "),
             Cell::Count(0, admitted),
+            Cell::Text(b", split "),
+            Cell::Count(0, split),
             Cell::Text(b"\n"),
         ],
     )
@@ -206,6 +218,57 @@ fn has_all(view: &View, vcpus: &[Vcpu], figures: &Figures, tick_ns: u32, vcpu: u
     ensures { result ≡ has_all tick_ns vcpus.now view.now.names.items view.now.slots.items vcpu }
 {
     is_admitted(view, vcpus, vcpu) && !is_broken(view, vcpus, figures, tick_ns, vcpu)
+}
+
+// How many of the vCPUs are split.
+fn split_below(view: &View, figures: &Figures) -> u64
+    requires figures { AreFigures view.now figures.now }
+    requires few { view.now.cores ≤ MAX_CORES }
+    requires vcpus { length view.now.tasks.items ≤ MAX_VCPUS }
+    ensures { result ≡ split_below view.now.slots.items view.now.cores (length view.now.tasks.items) }
+{
+    let mut count = 0;
+    for vcpu in 0..view.tasks.len() {
+        if is_split(view, figures, vcpu) {
+            count += 1;
+        }
+    }
+    count
+}
+
+// Whether the vCPU has slots on two cores or more.
+fn is_split(view: &View, figures: &Figures, vcpu: usize) -> bool
+    requires figures { AreFigures view.now figures.now }
+    requires few { view.now.cores ≤ MAX_CORES }
+    requires low { vcpu < length view.now.tasks.items }
+    ensures { result ≡ is_split view.now.slots.items view.now.cores vcpu }
+{
+    1 < cores_with(view, figures, vcpu)
+}
+
+// On how many cores the vCPU has slots.
+fn cores_with(view: &View, figures: &Figures, vcpu: usize) -> u32
+    requires figures { AreFigures view.now figures.now }
+    requires few { view.now.cores ≤ MAX_CORES }
+    requires low { vcpu < length view.now.tasks.items }
+    ensures { result ≡ cores_with view.now.slots.items view.now.cores vcpu }
+{
+    let mut count = 0;
+    for core in 0..view.cores {
+        if has_slot_on(view, figures, vcpu, core) {
+            count += 1;
+        }
+    }
+    count
+}
+
+fn has_slot_on(view: &View, figures: &Figures, vcpu: usize, core: u32) -> bool
+    requires figures { AreFigures view.now figures.now }
+    requires few { core < MAX_CORES }
+    requires low { vcpu < length view.now.tasks.items }
+    ensures { result ≡ has_slot_on view.now.slots.items vcpu core }
+{
+    figures.stands[vcpu * MAX_CORES as usize + core as usize]
 }
 
 // The ticks of the slots of all cores.

@@ -5,5 +5,5 @@ use Rattle.fleet_place.proofs.deal.deal.Goals as goal
 
 pub deal_all-requires-clause-known : goal.deal_all-requires-clause-known
 deal_all-requires-clause-known c =
-    subst (KnowsRefusals c.args.tick_ns c.args.hosts.now) (sym (c.deref_mut.ensures.value ∙ c.in_ok-refused.ensures))
-    (knows_none c.args.tick_ns c.args.hosts.now _)
+    subst (KnowsRefusals c.args.policy.now c.args.hosts.now) (sym (c.deref_mut.ensures.value ∙ c.in_ok-refused.ensures))
+    (knows_none c.args.policy.now c.args.hosts.now _)

@@ -8,7 +8,7 @@ pub loop-vm-init : goal.loop-vm-init
 loop-vm-init c = record {
   size = c.requires.sizes;
   knows = c.requires.known;
-  dealt = subst (Deal c.args.tick_ns c.args.hosts.now _ c.args.hosts.now) (sym c.new-left.ensures.items) NoVm;
+  dealt = subst (Deal c.args.policy.now c.args.hosts.now _ c.args.hosts.now) (sym c.new-left.ensures.items) NoVm;
 }
 
 pub loop-vm-preserved : goal.loop-vm-preserved
@@ -24,5 +24,5 @@ loop-vm-preserved c =
 pub returns : goal.returns
 returns c =
     let test = c.loop-vm-test.false in
-    subst (λ order. Deal c.args.tick_ns c.args.hosts.now order c.loop-vm.hosts c.loop-vm.left.items)
+    subst (λ order. Deal c.args.policy.now c.args.hosts.now order c.loop-vm.hosts c.loop-vm.left.items)
     (take_all c.loop-vm.vm-index c.args.order.now (omega (arith, test))) c.loop-vm.invariant.dealt

@@ -7,6 +7,6 @@ use Rattle.fleet_place.proofs.deal.deal_all.Given as goal
 abbrev pub invariant-loop-vm : goal.invariant-loop-vm
 invariant-loop-vm l = record {
   size : length l.refused ≡ length l.hosts;
-  knows : KnowsRefusals l.tick_ns l.hosts l.refused;
-  dealt : Deal l.tick_ns l.fn.hosts (take l.vm-index l.order) l.hosts l.left.items;
+  knows : KnowsRefusals l.policy l.hosts l.refused;
+  dealt : Deal l.policy l.fn.hosts (take l.vm-index l.order) l.hosts l.left.items;
 }

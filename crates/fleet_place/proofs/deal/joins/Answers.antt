@@ -14,7 +14,7 @@ returns-then-not-has_space-clause-fits_not c = λ is. elim c.then-not-has_space.
         | inr many ↦ TooMany (omega (arith, many, count_push c.args.host.now.vms c.args.vm.now))
       ]
   | then-not-has_space-via-else-not-has_space+then-is_known w ↦
-      known_again c.args.tick_ns c.args.host.now c.args.vm.now c.args.refused.now
+      known_again c.args.policy.now c.args.host.now c.args.vm.now c.args.refused.now
       (w.is_known.ensures w.if-is_known.true) c.requires.known
 ]
 
@@ -28,6 +28,6 @@ returns-clause-fits c = λ yes.
     record {
       load = omega (arith, much, load_push c.args.host.now.vms c.args.vm.now);
       count = omega (arith, many, count_push c.args.host.now.vms c.args.vm.now);
-      accepted = subst (λ n. IsAccepted c.args.tick_ns n (sizes_in (c.args.host.now.vms ++ c.args.vm.now ∷ [])))
-          c.cores.ensures.value (subst (IsAccepted c.args.tick_ns c.cores.result) sizes (c.in_ok-fits.ensures.accepted yes));
+      accepted = subst (λ n. IsAccepted c.args.policy.now n (sizes_in (c.args.host.now.vms ++ c.args.vm.now ∷ [])))
+          c.cores.ensures.value (subst (IsAccepted c.args.policy.now c.cores.result) sizes (c.in_ok-fits.ensures.accepted yes));
     }

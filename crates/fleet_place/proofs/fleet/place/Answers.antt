@@ -20,7 +20,7 @@ pub loop-group-preserved : goal.loop-group-preserved
 loop-group-preserved c =
     let p = c.in_ok-host.ensures in
     rw (c.in_ok-push.ensures.items, p.1)
-    (stay_more c.args.tick_ns c.args.groups.now c.loop-group.group-index c.group-item.result c.loop-group.hosts.items
+    (stay_more c.args.policy.now c.args.groups.now c.loop-group.group-index c.group-item.result c.loop-group.hosts.items
     c.loop-group.pool.items c.in_ok-host.host p.0 c.loop-group-test.true c.group-item.is c.loop-group.invariant p.2)
 
 pub returns-clause-cores : goal.returns-clause-cores
@@ -29,21 +29,21 @@ returns-clause-cores c =
     with_items_is c.loop-group.hosts c.deal.new.hosts
     (c.deal.auto.hosts ∙ (ap length c.deref_mut.ensures.value ∙ sym c.loop-group.hosts.ok.0)) in
     let test = c.loop-group-test.false in
-    let is : IsPlacing c.args.tick_ns c.args.groups.now c.args.others.now c.deal.new.hosts c.in_ok-left.left.items = record {
+    let is : IsPlacing c.args.policy.now c.args.groups.now c.args.others.now c.deal.new.hosts c.in_ok-left.left.items = record {
       start = c.loop-group.hosts.items;
       moved = c.loop-group.pool.items;
-      stay = subst (λ gs. Stay c.args.tick_ns gs c.loop-group.hosts.items c.loop-group.pool.items)
+      stay = subst (λ gs. Stay c.args.policy.now gs c.loop-group.hosts.items c.loop-group.pool.items)
           (take_all c.loop-group.group-index c.args.groups.now (omega (arith, test))) c.loop-group.invariant;
       order = c.put_in_order.new.vms.items;
       falling = subst (λ vms. IsFallingVmOrder vms c.put_in_order.new.vms.items)
           c.in_ok-extend_from_slice.ensures.items c.in_ok-put_in_order.ensures;
-      deal = subst (λ start. Deal c.args.tick_ns start c.put_in_order.new.vms.items c.deal.new.hosts c.in_ok-left.left.items)
+      deal = subst (λ start. Deal c.args.policy.now start c.put_in_order.new.vms.items c.deal.new.hosts c.in_ok-left.left.items)
           c.deref_mut.ensures.value
-          (subst (λ order. Deal c.args.tick_ns c.deref_mut.result.now order c.deal.new.hosts c.in_ok-left.left.items)
+          (subst (λ order. Deal c.args.policy.now c.deref_mut.result.now order c.deal.new.hosts c.in_ok-left.left.items)
           c.deref.ensures.value c.in_ok-left.ensures);
     } in
     subst (λ hosts. map held_cores hosts ≡ map group_cores c.args.groups.now) (sym same)
-    (placing_cores c.args.tick_ns c.args.groups.now c.args.others.now c.deal.new.hosts c.in_ok-left.left.items is)
+    (placing_cores c.args.policy.now c.args.groups.now c.args.others.now c.deal.new.hosts c.in_ok-left.left.items is)
 
 pub returns-clause-each : goal.returns-clause-each
 returns-clause-each c =
@@ -51,22 +51,22 @@ returns-clause-each c =
     with_items_is c.loop-group.hosts c.deal.new.hosts
     (c.deal.auto.hosts ∙ (ap length c.deref_mut.ensures.value ∙ sym c.loop-group.hosts.ok.0)) in
     let test = c.loop-group-test.false in
-    let is : IsPlacing c.args.tick_ns c.args.groups.now c.args.others.now c.deal.new.hosts c.in_ok-left.left.items = record {
+    let is : IsPlacing c.args.policy.now c.args.groups.now c.args.others.now c.deal.new.hosts c.in_ok-left.left.items = record {
       start = c.loop-group.hosts.items;
       moved = c.loop-group.pool.items;
-      stay = subst (λ gs. Stay c.args.tick_ns gs c.loop-group.hosts.items c.loop-group.pool.items)
+      stay = subst (λ gs. Stay c.args.policy.now gs c.loop-group.hosts.items c.loop-group.pool.items)
           (take_all c.loop-group.group-index c.args.groups.now (omega (arith, test))) c.loop-group.invariant;
       order = c.put_in_order.new.vms.items;
       falling = subst (λ vms. IsFallingVmOrder vms c.put_in_order.new.vms.items)
           c.in_ok-extend_from_slice.ensures.items c.in_ok-put_in_order.ensures;
-      deal = subst (λ start. Deal c.args.tick_ns start c.put_in_order.new.vms.items c.deal.new.hosts c.in_ok-left.left.items)
+      deal = subst (λ start. Deal c.args.policy.now start c.put_in_order.new.vms.items c.deal.new.hosts c.in_ok-left.left.items)
           c.deref_mut.ensures.value
-          (subst (λ order. Deal c.args.tick_ns c.deref_mut.result.now order c.deal.new.hosts c.in_ok-left.left.items)
+          (subst (λ order. Deal c.args.policy.now c.deref_mut.result.now order c.deal.new.hosts c.in_ok-left.left.items)
           c.deref.ensures.value c.in_ok-left.ensures);
     } in
     subst (λ hosts. IsPermutation (flat_map group_vms c.args.groups.now ++ c.args.others.now)
     (all_held hosts ++ c.in_ok-left.left.items)) (sym same)
-    (placing_keeps c.args.tick_ns c.args.groups.now c.args.others.now c.deal.new.hosts c.in_ok-left.left.items is)
+    (placing_keeps c.args.policy.now c.args.groups.now c.args.others.now c.deal.new.hosts c.in_ok-left.left.items is)
 
 pub returns-clause-fits : goal.returns-clause-fits
 returns-clause-fits c =
@@ -74,18 +74,18 @@ returns-clause-fits c =
     with_items_is c.loop-group.hosts c.deal.new.hosts
     (c.deal.auto.hosts ∙ (ap length c.deref_mut.ensures.value ∙ sym c.loop-group.hosts.ok.0)) in
     let test = c.loop-group-test.false in
-    let is : IsPlacing c.args.tick_ns c.args.groups.now c.args.others.now c.deal.new.hosts c.in_ok-left.left.items = record {
+    let is : IsPlacing c.args.policy.now c.args.groups.now c.args.others.now c.deal.new.hosts c.in_ok-left.left.items = record {
       start = c.loop-group.hosts.items;
       moved = c.loop-group.pool.items;
-      stay = subst (λ gs. Stay c.args.tick_ns gs c.loop-group.hosts.items c.loop-group.pool.items)
+      stay = subst (λ gs. Stay c.args.policy.now gs c.loop-group.hosts.items c.loop-group.pool.items)
           (take_all c.loop-group.group-index c.args.groups.now (omega (arith, test))) c.loop-group.invariant;
       order = c.put_in_order.new.vms.items;
       falling = subst (λ vms. IsFallingVmOrder vms c.put_in_order.new.vms.items)
           c.in_ok-extend_from_slice.ensures.items c.in_ok-put_in_order.ensures;
-      deal = subst (λ start. Deal c.args.tick_ns start c.put_in_order.new.vms.items c.deal.new.hosts c.in_ok-left.left.items)
+      deal = subst (λ start. Deal c.args.policy.now start c.put_in_order.new.vms.items c.deal.new.hosts c.in_ok-left.left.items)
           c.deref_mut.ensures.value
-          (subst (λ order. Deal c.args.tick_ns c.deref_mut.result.now order c.deal.new.hosts c.in_ok-left.left.items)
+          (subst (λ order. Deal c.args.policy.now c.deref_mut.result.now order c.deal.new.hosts c.in_ok-left.left.items)
           c.deref.ensures.value c.in_ok-left.ensures);
     } in
-    subst (All (FitsItself c.args.tick_ns)) (sym same)
-    (placing_fits c.args.tick_ns c.args.groups.now c.args.others.now c.deal.new.hosts c.in_ok-left.left.items is)
+    subst (All (FitsItself c.args.policy.now)) (sym same)
+    (placing_fits c.args.policy.now c.args.groups.now c.args.others.now c.deal.new.hosts c.in_ok-left.left.items is)

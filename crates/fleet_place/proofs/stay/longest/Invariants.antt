@@ -6,7 +6,7 @@ use Rattle.fleet_place.proofs.stay.longest.Given as goal
 abbrev pub invariant-loop-count : goal.invariant-loop-count
 invariant-loop-count l = record {
   few : l.count ≤ length l.vms;
-  longest : (more : ℕ) → l.count < more → more ≤ length l.vms → FitsNot l.tick_ns l.cores (take more l.vms);
+  longest : (more : ℕ) → l.count < more → more ≤ length l.vms → FitsNot l.policy l.cores (take more l.vms);
 }
 
 abbrev pub decreases-loop-count : goal.decreases-loop-count

@@ -11,7 +11,7 @@ returns c = (
       (take_all (length c.as_slice-vms.result.now - c.in_ok-count.count)
       (drop c.in_ok-count.count c.as_slice-vms.result.now)
       (omega (arith, length-drop c.in_ok-count.count c.as_slice-vms.result.now))),
-  stays_first c.args.tick_ns c.args.group.now c.in_ok-host.host c.as_slice-vms.result.now c.in_ok-count.count
+  stays_first c.args.policy.now c.args.group.now c.in_ok-host.host c.as_slice-vms.result.now c.in_ok-count.count
       (sym c.as_slice-vms.ensures.value) c.in_ok-count.ensures.within c.in_ok-host.ensures
       c.in_ok-count.ensures.fits c.in_ok-count.ensures.longest,
 )

@@ -37,6 +37,7 @@ loop-host-preserved g c =
       vms = omega (arith, was_vms, vms_of, sum_by_more (λ (h : Held). length h.vms) hosts i held low, ap (λ (h : Held). length h.vms) is);
       vcpus = omega (arith, was_vcpus, vcpus_of, sum_by_more (λ (h : Held). vcpu_count_of h.vms) hosts i held low, ap (λ (h : Held). vcpu_count_of h.vms) is);
       load = omega (arith, was_load, load, sum_by_more (λ (h : Held). load_of_vms h.vms) hosts i held low, ap (λ (h : Held). load_of_vms h.vms) is);
+      split = was.split;
       some = omega (arith, was_some, some, cores_of, cores_value);
       few_cores = omega (arith, was_few_cores, few, cores_of, cores_value);
       few_vms = omega (arith, was_few_vms, vms_of, vcpus_of, at_least);

@@ -11,6 +11,7 @@ invariant-loop-host g l = record {
   vms : l.all.vms ≡ sum_by (λ (held : Held). length held.vms) (take l.host-index l.hosts);
   vcpus : l.all.vcpus ≡ sum_by (λ (held : Held). vcpu_count_of held.vms) (take l.host-index l.hosts);
   load : l.all.load ≡ sum_by (λ (held : Held). load_of_vms held.vms) (take l.host-index l.hosts);
+  split : l.all.split ≡ l.split;
   some : l.host-index ≤ l.all.cores;
   few_cores : l.all.cores ≤ l.host-index * MAX_CORES;
   few_vms : l.all.vms ≤ l.all.vcpus;

@@ -7,7 +7,7 @@ pub returns : goal.returns
 returns g c =
     let held : c.index-hosts-number.result ≡ get_or c.args.hosts.now c.args.number no_host =
     c.index-hosts-number.is
-    ∙ get_or_default c.args.hosts.now c.args.number c.index-hosts-number.result no_host c.requires in
+    ∙ get_or_default c.args.hosts.now c.args.number c.index-hosts-number.result no_host c.requires.low in
     rw (
       c.from.ensures,
       c.cores.ensures.value,
@@ -15,5 +15,6 @@ returns g c =
       c.from-2.ensures,
       c.vcpus.ensures.value,
       c.load.ensures.value,
+      c.from-3.ensures,
       held,
     ) at c.put_full.ensures

@@ -7,4 +7,4 @@ use Rattle.fleet_place.proofs.write.put_rows.Given as goal
 -- the texts so far came
 abbrev pub invariant-loop-number : goal.invariant-loop-number
 invariant-loop-number g l = Writes {U = Unit {0}} (g.K.Sink.state l.fn.sink) (g.K.Sink.state l.sink)
-    (texts_below (host_row l.hosts) l.number) (Ok (tt {0}))
+    (texts_below (host_row l.hosts l.splits) l.number) (Ok (tt {0}))

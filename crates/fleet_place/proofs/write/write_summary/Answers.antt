@@ -18,4 +18,4 @@ pub returns : goal.returns
 returns g c =
     let at0 = left_behind _ _ _ _ _ _ _ _ _ (all_left _ _) refl c.write_all.ensures c.in_ok-write_all.was in
     let at1 = left_behind _ _ _ _ _ _ _ _ _ at0 refl c.put_rows.ensures c.in_ok-put_rows.was in
-    left_last _ _ _ _ _ _ at1 c.put_fleet.ensures
+    left_last _ _ _ _ _ _ at1 (rw c.sum_of.ensures at c.put_fleet.ensures)

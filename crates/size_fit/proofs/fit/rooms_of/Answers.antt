@@ -1,4 +1,3 @@
-use Rattle.std.proofs.Common.{◌≡◌, ◌++◌, [], ◌∷◌, arith}
 use Rattle.std.proofs.lemmas.List.Elements.{All-push}
 use Rattle.size_fit.specs.Fits.{FitMore}
 use Rattle.size_fit.specs.declared.fit.Room.{Room}
@@ -11,6 +10,6 @@ loop-size-preserved c =
     rw c.in_ok-push.ensures.items (record {
       sizes = rooms_next c.args.sizes.now c.loop-size.size-index c.loop-size.rooms.items room c.loop-size-test.true
           c.size-item.is c.loop-size.invariant.sizes;
-      more = All-push (λ room. FitMore c.args.host.now room.size room.more) c.loop-size.rooms.items room
+      more = All-push (λ room. FitMore c.args.no_split c.args.host.now room.size room.more) c.loop-size.rooms.items room
           c.loop-size.invariant.more c.in_ok-more.ensures;
     })

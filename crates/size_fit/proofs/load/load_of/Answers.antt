@@ -1,6 +1,6 @@
 use Rattle.std.proofs.Common.{ap, ◌∙◌, arith}
 use Rattle.size_fit.specs.Loads.{load_of_row}
-use Rattle.size_fit.proofs.LoadLemmas.{Next, counts_all, counts_none, next}
+use Rattle.size_fit.proofs.LoadLemmas.{counts_all, counts_none, next}
 use Rattle.size_fit.proofs.load.load_of.Goals as goal
 
 pub loop-segment-init : goal.loop-segment-init

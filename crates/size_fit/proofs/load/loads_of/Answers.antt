@@ -1,6 +1,6 @@
 use Rattle.std.proofs.Common.{ap, ◌∙◌, arith}
 use Rattle.std.proofs.lemmas.List.{take_all}
-use Rattle.size_fit.specs.Loads.{load_of_row, loads_of}
+use Rattle.size_fit.specs.Loads.{loads_of}
 use Rattle.size_fit.proofs.LoadLemmas.{loads_next}
 use Rattle.size_fit.proofs.load.loads_of.Goals as goal
 

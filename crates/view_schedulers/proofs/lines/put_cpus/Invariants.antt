@@ -7,4 +7,4 @@ use Rattle.view_schedulers.proofs.lines.put_cpus.Given as goal
 -- the CPUs so far came
 abbrev pub invariant-loop-core : goal.invariant-loop-core
 invariant-loop-core g l = Writes {U = Unit {0}} (g.K.Sink.state l.fn.sink) (g.K.Sink.state l.sink)
-    (texts_below (cpu_word l.first_cpu) l.core) (Ok (tt {0}))
+    (texts_below (cpu_word l.cpus) l.core) (Ok (tt {0}))

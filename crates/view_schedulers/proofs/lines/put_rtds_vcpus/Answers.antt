@@ -9,15 +9,15 @@ loop-vcpu-init g c = none_written _ _ (tt {0})
 pub returns-in_err-put_rtds_at : goal.returns-in_err-put_rtds_at
 returns-in_err-put_rtds_at g c =
     let p = err_from_is_err_and c.from_residual.result c.from_residual.ensures.1 in
-    rw p.1 (next_broken _ _ _ (each_vcpu_text (rtds_of c.args.first_cpu c.args.tick_ns c.args.host.now) c.args.names.now c.args.tasks.now)
+    rw p.1 (next_broken _ _ _ (each_vcpu_text (rtds_of c.args.cpus.now c.args.tick_ns c.args.host.now) c.args.names.now c.args.tasks.now)
     c.loop-vcpu.vcpu _ (tt {0}) _ c.in_err-put_rtds_at.field-0.0 c.loop-vcpu-test.true c.loop-vcpu.invariant
     c.put_rtds_at.ensures c.in_err-put_rtds_at.was)
 
 pub loop-vcpu-preserved : goal.loop-vcpu-preserved
 loop-vcpu-preserved g c = next_written _ _ _
-    (each_vcpu_text (rtds_of c.args.first_cpu c.args.tick_ns c.args.host.now) c.args.names.now c.args.tasks.now)
+    (each_vcpu_text (rtds_of c.args.cpus.now c.args.tick_ns c.args.host.now) c.args.names.now c.args.tasks.now)
     c.loop-vcpu.vcpu (tt {0}) c.in_ok-put_rtds_at.field-0 _ c.loop-vcpu.invariant c.put_rtds_at.ensures c.in_ok-put_rtds_at.was
 
 pub returns : goal.returns
-returns g c = all_written _ _ (each_vcpu_text (rtds_of c.args.first_cpu c.args.tick_ns c.args.host.now) c.args.names.now c.args.tasks.now)
+returns g c = all_written _ _ (each_vcpu_text (rtds_of c.args.cpus.now c.args.tick_ns c.args.host.now) c.args.names.now c.args.tasks.now)
     c.loop-vcpu.vcpu _ (tt {0}) c.loop-vcpu.auto.vcpu-end c.loop-vcpu-test.false c.loop-vcpu.invariant

@@ -7,4 +7,4 @@ use Rattle.view_schedulers.proofs.lines.put_rtds_vcpus.Given as goal
 -- the lines of the vCPUs so far came
 abbrev pub invariant-loop-vcpu : goal.invariant-loop-vcpu
 invariant-loop-vcpu g l = Writes {U = Unit {0}} (g.K.Sink.state l.fn.sink) (g.K.Sink.state l.sink)
-    (texts_below (each_vcpu_text (rtds_of l.first_cpu l.tick_ns l.host) l.names l.tasks) l.vcpu) (Ok (tt {0}))
+    (texts_below (each_vcpu_text (rtds_of l.cpus l.tick_ns l.host) l.names l.tasks) l.vcpu) (Ok (tt {0}))

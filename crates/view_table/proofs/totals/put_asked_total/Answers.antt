@@ -10,6 +10,7 @@ returns g c =
       ← c.asked_below-asked.ensures,
       ← c.kept_below-kept.ensures,
       ← c.admitted_below-admitted.ensures,
+      ← c.split_below-split.ensures,
       ← c.is_refused.ensures,
       ← c.kept_count.ensures,
       ← count,

@@ -9,6 +9,7 @@ returns-in-None g c =
       ← c.given_below-given.ensures,
       ← c.busy_below.ensures.value,
       ← c.full_of-full.ensures,
+      ← c.split_below-split.ensures,
       ← count,
     )
     c.put_plain_total.ensures
