@@ -5,7 +5,6 @@
 use clap::builder::ValueParser;
 use clap::{Arg, ArgAction, Command};
 use std::alloc::{AllocError, Global};
-use tab_core::MAX_CORES;
 
 // What `--version` says. A program that knew its revision would be another with each of them, so the installation has it.
 const VERSION: &str =
