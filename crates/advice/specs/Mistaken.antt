@@ -111,7 +111,7 @@ kind_text Yaml = codes "the text is YAML, and a host document is TOML: cores = 1
 kind_text Twice = codes "a table has a key once: leave one line out, or begin another vCPU by [[vcpu]]"
 kind_text NoUtf8 = codes "the text isn't in UTF-8: save it so"
 kind_text Control = codes "a ? there is a byte that no text has: leave it out"
-kind_text other = codes "texts are in quotes, and a number has neither % nor unit:\ntableau: share_ppm 200000 is 20 %, latency_ns 20000000 is 20 ms"
+kind_text _ = codes "texts are in quotes, and a number has neither % nor unit:\ntableau: share_ppm 200000 is 20 %, latency_ns 20000000 is 20 ms"
 
 -- what a line is that is none of a plan: a refusal, the first of a plan, a line that ends in CR LF, or one of a host
 abbrev pub kind_of_plan_line : List ℕ → Kind
