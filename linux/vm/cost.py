@@ -5,7 +5,7 @@ import sys
 
 NAMES = ["select_cpu", "enqueue", "dispatch", "running", "stopping", "arm", "init", "enable", "disable", "exit"]
 EVENT = re.compile(r"^.*-\d+\s+\[\d+\]\s+\S+\s+(\d+): (\w+): (.*)$")
-NS = 4  # of an instruction, by -icount shift=2; the TSC is in ns
+NS = 1  # of an instruction, by -icount shift=0; the TSC is in ns
 SOON = 100_000  # a wake that runs later waited for another's slot
 
 
