@@ -1,5 +1,6 @@
 /* SPDX-License-Identifier: MIT OR GPL-2.0
- * The scheduler's choice and the loader's reader as a library for `check`: the very code of table.h and tables.c. */
+ * The scheduler's choice and the loader's reader as a library for `check`: the very code of table.h and
+ * tables.c. */
 #include "tables.h"
 
 #define MAXTABLES 16 /* a host's, and those after 15 changes at most */

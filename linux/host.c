@@ -16,7 +16,8 @@
 #define CPUS "/sys/devices/system/cpu"
 #define LATE_WAKE 50 /* us: a CPU that wakes later than that is late at borders */
 
-/* Numbers of a list such as 1-3,6 one after the other: the next one, or -1 at its end, or -2 where it is no list. */
+/* Numbers of a list such as 1-3,6 one after the other: the next one, or -1 at its end, or -2 where it is
+ * no list. */
 static int next_cpu(const char **at, int *upto)
 {
 	static int value;

@@ -148,11 +148,13 @@ static bool trace_start(const struct kernel *kernel)
 	       put("events/sched/sched_switch/enable", "1") && put("events/sched/sched_waking/enable", "1");
 }
 
-static void trace_read(const struct kernel *kernel, word_t until)
+/* Prints the lines up to a time: false if the kernel says that it lost events. */
+static bool trace_read(const struct kernel *kernel, word_t until)
 {
 	struct pollfd in = {.fd = open(TRACE "/trace_pipe", O_RDONLY | O_NONBLOCK), .events = POLLIN};
 	static char text[1 << 16];
 	size_t have = 0;
+	bool whole = true;
 	ssize_t n;
 
 	while (in.fd >= 0 && now_ns() < until && !ferror(stdout)) {
@@ -165,12 +167,15 @@ static void trace_read(const struct kernel *kernel, word_t until)
 		text[have += n] = 0;
 		for (; (feed = strchr(line, '\n')); line = feed + 1) {
 			*feed = 0;
+			whole = whole && !(strstr(line, "[LOST ") && strstr(line, " EVENTS]"));
 			print_event(kernel, line);
 		}
 		have -= line - text;
 		memmove(text, line, have);
 	}
-	close(in.fd);
+	if (in.fd >= 0)
+		close(in.fd);
+	return whole && in.fd >= 0;
 }
 
 int trace(const char *seconds)
@@ -190,8 +195,10 @@ int trace(const char *seconds)
 	if (!trace_start(&kernel))
 		status = refuse(MACHINE, "no tracefs",
 			TRACE ": %s. mount -t tracefs tracing /sys/kernel/tracing", strerror(errno));
-	else
-		trace_read(&kernel, now_ns() + (word_t)(s * 1e9));
+	else if (!trace_read(&kernel, now_ns() + (word_t)(s * 1e9)))
+		status = refuse(MACHINE, "events are lost",
+			"the kernel's buffer ran over, so the lines aren't whole:"
+			" run it again when less goes on");
 	rmdir(TRACE);
 	kernel_close(&kernel);
 	return status;

@@ -13,7 +13,8 @@
 
 typedef unsigned long long word_t;
 
-/* Up to end (ns in the round) the slot is owner's (a number, or NOBODY), and the second level may take the vCPUs of may. */
+/* Up to end (ns in the round) the slot is owner's (a number, or NOBODY), and the second level may take
+ * the vCPUs of may. */
 struct tab_span {
 	word_t end, may[WORDS];
 	int owner, pad;
@@ -38,15 +39,16 @@ struct tab_core {
 	int slot_id;	   /* the vCPU for which where[] names this core */
 	int pick;	   /* the vCPU that dispatch chose last, or NOBODY once a border is past */
 	int shared;	   /* whether that was a shared pick */
-	int kind;	   /* the same of what runs */
+	int polls;	   /* whether the timer comes at the next quantum, if the span lasts so long */
 	word_t direct;	   /* the end of the slot in which the pick woke, if it did; 0 otherwise */
 	int last;	   /* the last shared pick, a number of the plan */
-	word_t dispatches, slots, shares, strangers, idle, borders, quanta, strays, late_sum, late_max;
+	word_t slots, shares, strangers, idle, borders, quanta, strays, late_sum, late_max;
 } __attribute__((aligned(64)));
 
-/* What a vCPU's thread got: in its slots, and beside them. */
+/* What a vCPU's thread got up to its present stint: in its slots, and beside them. */
 struct tab_vcpu {
 	word_t seen, ran[2];
+	int kind, pad; /* which of the two the stint is */
 };
 
 /* Both plans have numbers of their own; a vCPU's id is what its name keeps from plan to plan. */
@@ -95,8 +97,8 @@ static inline int least(const word_t words[WORDS], unsigned int from)
 	return NOBODY;
 }
 
-/* The rule of the tables: the owner of the slot if it is runnable, else the least eligible number above the last shared
- * pick, else the least eligible number, else NOBODY. */
+/* The rule of the tables: the owner of the slot if it is runnable, else the least eligible number above
+ * the last shared pick, else the least eligible number, else NOBODY. */
 #ifdef PROVED
 /* That of the crate choice_words, which is proved; 256 or more is nobody. */
 extern unsigned int tableau_choice(

@@ -1,10 +1,11 @@
 /* SPDX-License-Identifier: MIT OR GPL-2.0
  * A table-driven scheduler for sched_ext: it follows the tables of `tableau-tools export scx`.
- *
- * Only threads of the policy SCHED_EXT are here (SCX_OPS_SWITCH_PARTIAL): all others keep the kernel's own schedulers. A
- * thread in the map `tags` is a vCPU; each vCPU has a queue of its own (DSQ), whose number is the vCPU's id. `dispatch`
- * looks up the span of the core's row at the clock, and takes the vCPU that `decide` names. A timer on each core comes
- * where a span ends, and makes the core dispatch again. */
+ * 
+ * Only threads of the policy SCHED_EXT are here (SCX_OPS_SWITCH_PARTIAL): all others keep the kernel's
+ * own schedulers. A thread in the map `tags` is a vCPU; each vCPU has a queue of its own (DSQ), whose
+ * number is the vCPU's id. `dispatch` looks up the span of the core's row at the clock, and takes the
+ * vCPU that `decide` names. A timer on each core comes where a span ends, and makes the core dispatch
+ * again. */
 #include "vmlinux.h"
 #include <bpf/bpf_helpers.h>
 #include <bpf/bpf_tracing.h>
@@ -80,7 +81,8 @@ static u32 plan_at(u64 now)
 	return now >= word / 2 ? word & 1 : !(word & 1);
 }
 
-/* The core enters the round that began at round: by the plan that counts there, and with the last pick's number in it. */
+/* The core enters the round that began at round: by the plan that counts there, and with the last pick's
+ * number in it. */
 static void enter(struct tab_core *core, u64 round)
 {
 	u32 plan = plan_at(round);
@@ -129,8 +131,8 @@ static bool look(struct tab_core *core, u32 c, u64 now)
 	return true;
 }
 
-/* The vCPU's id of a thread. `enable` writes it into the thread, since its queue, first in first out, has no use for the
- * time there; so nobody looks it up at each switch. */
+/* The vCPU's id of a thread. `enable` writes it into the thread, since its queue, first in first out,
+ * has no use for the time there; so nobody looks it up at each switch. */
 static s32 id_of(const struct task_struct *p)
 {
 	u64 id = p->scx.dsq_vtime - 1;
@@ -200,7 +202,8 @@ static u64 slot_end(const volatile struct tab_core *core, s32 id)
 	return core->end == end ? end : 0;
 }
 
-/* The owner wakes in its slot, on the slot's CPU: it goes before whatever runs there, without a kick and a dispatch. */
+/* The owner wakes in its slot, on the slot's CPU: it goes before whatever runs there, without a kick and
+ * a dispatch. */
 static bool wakes_in_slot(struct tab_core *core, struct task_struct *p, s32 id, u64 flags)
 {
 	u64 end = flags & SCX_ENQ_WAKEUP ? slot_end(core, id) : 0;
@@ -217,7 +220,7 @@ static bool wakes_in_slot(struct tab_core *core, struct task_struct *p, s32 id, 
 
 void OPS(tab_enqueue, struct task_struct *p, u64 flags)
 {
-	s32 id = id_of(p), core, cpu = scx_bpf_task_cpu(p);
+	s32 id = id_of(p), core, cpu = p->thread_info.cpu;
 	struct tab_core *here;
 	u32 c;
 
@@ -244,13 +247,15 @@ void OPS(tab_enqueue, struct task_struct *p, u64 flags)
 		scx_bpf_kick_cpu(set.cpu_of[core & (MAXCORE - 1)], SCX_KICK_IDLE);
 }
 
-static void account(struct tab_core *core, const struct task_struct *p, s32 id)
+/* What the thread ran since it was seen last goes to the kind of that stint, and a stint of kind begins. */
+static void account(const struct task_struct *p, s32 id, int kind)
 {
 	struct tab_vcpu *vcpu = &state.vcpus[id & (MAXID - 1)];
 	u64 ran = p->se.sum_exec_runtime;
 
-	vcpu->ran[core->kind & 1] += ran - vcpu->seen;
+	vcpu->ran[vcpu->kind & 1] += ran - vcpu->seen;
 	vcpu->seen = ran;
+	vcpu->kind = kind;
 }
 
 /* Lets the vCPU of this number run next, if it is what runs or is in its queue. */
@@ -260,13 +265,12 @@ static bool run(struct tab_core *core, s32 v, struct task_struct *prev, s32 prev
 	s32 id = state.id_of[plan][v & (MAXV - 1)];
 
 	if (prev && id == prev_id) {
-		core->kind = v != core->owner;
+		account(prev, id, v != core->owner);
 		grant(prev, set.round_ns);
 	} else if (!scx_bpf_dsq_move_to_local(id)) {
 		return false;
-	} else {
-		__sync_fetch_and_and(&state.queued[plan][v >> 6 & (WORDS - 1)], ~(1ULL << (v & 63)));
 	}
+	__sync_fetch_and_and(&state.queued[plan][v >> 6 & (WORDS - 1)], ~(1ULL << (v & 63)));
 	core->pick = id;
 	core->shared = v != core->owner;
 	if (!core->shared) {
@@ -278,23 +282,24 @@ static bool run(struct tab_core *core, s32 v, struct task_struct *prev, s32 prev
 	return true;
 }
 
-/* Runs whom the table names; one that isn't in its queue after all is struck off, so it is the choice of all that are. */
+/* Runs whom the table names; one that isn't in its queue after all is struck off, so it is the choice of
+ * all that are. */
 static bool choose(struct tab_core *core, u32 c, struct task_struct *prev, s32 prev_id)
 {
 	u32 plan = core->plan & 1, i;
 	struct tab_span *span = span_at(plan, c, core->at);
 	u64 runnable[WORDS];
-	s32 v = prev ? state.number_of[plan][prev_id & (MAXID - 1)] : NOBODY;
+	s32 v;
 
 	if (!span)
 		return false;
-	for (i = 0; i < WORDS; i++)
-		runnable[i] = state.queued[plan][i];
-	if (v >= 0)
-		runnable[v >> 6 & (WORDS - 1)] |= 1ULL << (v & 63);
-	v = decide(span->owner, span->may, runnable, core->last);
+	if (prev)
+		mark(plan, prev_id); /* it is runnable, and in its queue soon if another runs */
+	v = decide(span->owner, span->may, state.queued[plan], core->last);
 	if (v < 0 || run(core, v, prev, prev_id))
 		return v >= 0;
+	for (i = 0; i < WORDS; i++)
+		runnable[i] = state.queued[plan][i];
 	bpf_for(i, 0, MAXV)
 	{
 		runnable[v >> 6 & (WORDS - 1)] &= ~(1ULL << (v & 63));
@@ -316,13 +321,10 @@ void OPS(tab_dispatch, s32 cpu, struct task_struct *prev)
 		scx_bpf_dsq_move_to_local(STRANGERS);
 		return;
 	}
-	core->dispatches++;
 	if (prev && (prev->scx.flags & SCX_TASK_QUEUED))
 		prev_id = id_of(prev);
 	if (prev_id < 0)
 		prev = NULL;
-	else
-		account(core, prev, prev_id);
 	core->pick = NOBODY;
 	core->direct = 0;
 	if (choose(core, c, prev, prev_id))
@@ -334,11 +336,12 @@ void OPS(tab_dispatch, s32 cpu, struct task_struct *prev)
 		core->idle++;
 }
 
-/* A thread begins to run. One that waited in the CPU's own queue while a thread of a higher class ran comes here without
- * a dispatch, and kicks meanwhile did nothing: so see that it is the pick. A shared pick's slice is the quantum. */
+/* A thread begins to run. One that waited in the CPU's own queue while a thread of a higher class ran
+ * comes here without a dispatch, and kicks meanwhile did nothing: so see that it is the pick. A shared
+ * pick's slice is the quantum where the timer doesn't come at each quantum. */
 void OPS(tab_running, struct task_struct *p)
 {
-	s32 id = id_of(p), cpu = scx_bpf_task_cpu(p);
+	s32 id = id_of(p), cpu = p->thread_info.cpu;
 	struct tab_core *core;
 	bool late;
 	u32 c;
@@ -346,30 +349,19 @@ void OPS(tab_running, struct task_struct *p)
 	core = core_on(cpu, &c);
 	if (id < 0 || !core)
 		return;
-	core->kind = core->shared;
-	late = core->direct && bpf_ktime_get_ns() >= core->direct;
+	late = core->direct && core->direct != core->end;
 	core->direct = 0;
-	state.vcpus[id & (MAXID - 1)].seen = p->se.sum_exec_runtime;
+	account(p, id, core->shared);
 	if (id != core->pick || late) {
 		core->strays++;
 		scx_bpf_kick_cpu(cpu, SCX_KICK_PREEMPT);
-	} else if (core->shared) {
+	} else if (core->shared && !core->polls) {
 		grant(p, state.quantum_ns[core->plan & 1]);
 	}
 }
 
-void OPS(tab_stopping, struct task_struct *p, bool runnable)
-{
-	s32 id = id_of(p);
-	struct tab_core *core;
-	u32 c;
-
-	core = core_on(scx_bpf_task_cpu(p), &c);
-	if (id >= 0 && core)
-		account(core, p, id);
-}
-
-/* The core comes to a new span: says for wakings whose slot it is, and lets the core dispatch, unless the owner runs. */
+/* The core comes to a new span: says for wakings whose slot it is, and lets the core dispatch, unless
+ * the owner runs. */
 static void border(struct tab_core *core, u32 c, u64 now)
 {
 	u64 late = core->pulsed == core->begin ? now - core->begin : 0;
@@ -419,6 +411,7 @@ static int pulse(void *map, u32 *key, struct pulse *pulse)
 	} else if (now < set.t0) {
 		next = set.t0;
 	}
+	core->polls = polls;
 	bpf_timer_start(&pulse->timer, next, TIMER_FLAGS);
 	return 0;
 }
@@ -458,6 +451,8 @@ void OPS(tab_enable, struct task_struct *p)
 	u32 pid = p->pid;
 	s32 *id = bpf_map_lookup_elem(&tags, &pid);
 
+	if (id)
+		state.vcpus[*id & (MAXID - 1)].seen = p->se.sum_exec_runtime;
 	write_id(p, id && *id >= 0 && *id < MAXID ? *id : NOBODY);
 }
 
@@ -482,7 +477,6 @@ struct sched_ext_ops tableau_ops = {
 	.enqueue = (void *)tab_enqueue,
 	.dispatch = (void *)tab_dispatch,
 	.running = (void *)tab_running,
-	.stopping = (void *)tab_stopping,
 	.init = (void *)tab_init,
 	.enable = (void *)tab_enable,
 	.disable = (void *)tab_disable,

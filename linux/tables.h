@@ -21,8 +21,8 @@ struct tables {
 	struct tab_span *row[MAXCORE];
 };
 
-/* Reads a text. Where it isn't one, the answer is the first line at fault, and *why says what is wrong there. The rows of
- * what was read are freed by tables_free, whatever the answer was. */
+/* Reads a text. Where it isn't one, the answer is the first line at fault, and *why says what is wrong
+ * there. The rows of what was read are freed by tables_free, whatever the answer was. */
 unsigned int tables_read(const char *text, size_t size, struct tables *tables, const char **why);
 void tables_free(struct tables *tables);
 unsigned int tables_spans(const struct tables *tables);		/* of all rows */

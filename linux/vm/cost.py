@@ -3,9 +3,9 @@
 import re
 import sys
 
-NAMES = ["select_cpu", "enqueue", "dispatch", "running", "stopping", "arm", "init", "enable", "disable", "exit"]
+NAMES = ["select_cpu", "enqueue", "dispatch", "running", "arm", "init", "enable", "disable", "exit"]
 EVENT = re.compile(r"^.*-\d+\s+\[\d+\]\s+\S+\s+(\d+): (\w+): (.*)$")
-NS = 4  # of an instruction, by -icount shift=2; the TSC is in ns
+NS = 1  # of an instruction, by -icount shift=0; the TSC is in ns
 SOON = 100_000  # a wake that runs later waited for another's slot
 
 
@@ -55,7 +55,7 @@ def main():
     for kind, text in zip(parts[::2], parts[1::2]):
         timers, borders, wakes = spans(text.splitlines(), names)
         if kind == "tables":
-            own = sum(t for name, (t, _) in found.items() if name in NAMES[:5]) / NS / found["running"][1]
+            own = sum(t for name, (t, _) in found.items() if name in NAMES[:4]) / NS / found["running"][1]
             print(f"timer: {median(timers)} instructions with its two events, {len(timers)} times")
             print(f"own programs of a switch: {own:.0f}, and the timer's")
             print(f"from a border's timer to the switch: {median(borders)}, {len(borders)} times")
