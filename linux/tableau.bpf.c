@@ -1,6 +1,6 @@
 /* SPDX-License-Identifier: MIT OR GPL-2.0
  * A table-driven scheduler for sched_ext: it follows the tables of `tableau-tools export scx`.
- * 
+ *
  * Only threads of the policy SCHED_EXT are here (SCX_OPS_SWITCH_PARTIAL): all others keep the kernel's
  * own schedulers. A thread in the map `tags` is a vCPU; each vCPU has a queue of its own (DSQ), whose
  * number is the vCPU's id. `dispatch` looks up the span of the core's row at the clock, and takes the
