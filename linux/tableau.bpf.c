@@ -97,15 +97,13 @@ static void enter(struct tab_core *core, u64 round)
 	core->plan = plan;
 }
 
-/* Sees to it that core has the span at the clock now. Mostly that is the one that it has, or the next one. */
-static bool look(struct tab_core *core, u32 c, u64 now)
+/* Gives core the span at the clock now, which mostly is the next one. */
+static __noinline bool move(struct tab_core *core, u32 c, u64 now)
 {
 	struct tab_span *span, *before;
 	u64 place, begin = core->end - core->round;
 	u32 at = core->at + 1, plan, key;
 
-	if (now >= core->begin && now < core->end)
-		return true;
 	if (now < set.t0)
 		return false;
 	if (now - core->round >= set.round_ns) {
@@ -135,6 +133,12 @@ static bool look(struct tab_core *core, u32 c, u64 now)
 	barrier();
 	core->end = core->round + span->end;
 	return true;
+}
+
+/* Sees to it that core has the span at the clock now. Mostly it has, and that costs no call. */
+static __always_inline bool look(struct tab_core *core, u32 c, u64 now)
+{
+	return (now >= core->begin && now < core->end) || move(core, c, now);
 }
 
 /* The vCPU's id of a thread. `enable` writes it into the thread, since its queue, first in first out,
