@@ -42,6 +42,7 @@ struct tab_core {
 	int polls;	   /* whether the timer comes at the next quantum, if the span lasts so long */
 	word_t direct;	   /* the end of the slot in which the pick woke, if it did; 0 otherwise */
 	int last;	   /* the last shared pick, a number of the plan */
+	unsigned int key;  /* the span's place in the map of both plans' spans */
 	word_t slots, shares, strangers, idle, borders, quanta, strays, late_sum, late_max;
 } __attribute__((aligned(64)));
 

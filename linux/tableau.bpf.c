@@ -51,10 +51,13 @@ struct {
 	__type(value, struct pulse);
 } pulses SEC(".maps");
 
-static struct tab_span *span_at(u32 plan, u32 c, u32 at)
+static u32 key_of(u32 plan, u32 c, u32 at)
 {
-	u32 key = plan * set.room + state.first[plan & 1][c & (MAXCORE - 1)] + at;
+	return plan * set.room + state.first[plan & 1][c & (MAXCORE - 1)] + at;
+}
 
+static struct tab_span *span_of(u32 key)
+{
 	return bpf_map_lookup_elem(&spans, &key);
 }
 
@@ -66,7 +69,7 @@ __noinline u32 find(u32 plan, u32 c, u64 place)
 	bpf_for(i, 0, SPANBITS)
 	{
 		u32 next = low + (1 << (SPANBITS - 1) >> i);
-		struct tab_span *span = next < n ? span_at(plan, c, next - 1) : NULL;
+		struct tab_span *span = next < n ? span_of(key_of(plan, c, next - 1)) : NULL;
 
 		if (span && span->end <= place)
 			low = next;
@@ -94,15 +97,13 @@ static void enter(struct tab_core *core, u64 round)
 	core->plan = plan;
 }
 
-/* Sees to it that core has the span at the clock now. Mostly that is the one that it has, or the next one. */
-static bool look(struct tab_core *core, u32 c, u64 now)
+/* Gives core the span at the clock now, which mostly is the next one. */
+static __noinline bool move(struct tab_core *core, u32 c, u64 now)
 {
 	struct tab_span *span, *before;
 	u64 place, begin = core->end - core->round;
-	u32 at = core->at + 1, plan;
+	u32 at = core->at + 1, plan, key;
 
-	if (now >= core->begin && now < core->end)
-		return true;
 	if (now < set.t0)
 		return false;
 	if (now - core->round >= set.round_ns) {
@@ -111,11 +112,13 @@ static bool look(struct tab_core *core, u32 c, u64 now)
 	}
 	plan = core->plan;
 	place = now - core->round;
-	span = span_at(plan, c, at);
+	key = key_of(plan, c, at);
+	span = span_of(key);
 	if (!span || at >= state.spans[plan & 1][c & (MAXCORE - 1)] || place < begin || place >= span->end) {
 		at = find(plan, c, place);
-		span = span_at(plan, c, at);
-		before = span_at(plan, c, at - 1);
+		key = key_of(plan, c, at);
+		span = span_of(key);
+		before = span_of(key - 1);
 		begin = at && before ? before->end : 0;
 	}
 	if (!span || place >= span->end)
@@ -123,12 +126,19 @@ static bool look(struct tab_core *core, u32 c, u64 now)
 	core->end = 0; /* whoever reads it from elsewhere sees no span meanwhile */
 	barrier();
 	core->at = at;
+	core->key = key;
 	core->begin = core->round + begin;
 	core->owner = span->owner;
 	core->sharers = (span->may[0] | span->may[1] | span->may[2] | span->may[3]) != 0;
 	barrier();
 	core->end = core->round + span->end;
 	return true;
+}
+
+/* Sees to it that core has the span at the clock now. Mostly it has, and that costs no call. */
+static __always_inline bool look(struct tab_core *core, u32 c, u64 now)
+{
+	return (now >= core->begin && now < core->end) || move(core, c, now);
 }
 
 /* The vCPU's id of a thread. `enable` writes it into the thread, since its queue, first in first out,
@@ -284,10 +294,10 @@ static bool run(struct tab_core *core, s32 v, struct task_struct *prev, s32 prev
 
 /* Runs whom the table names; one that isn't in its queue after all is struck off, so it is the choice of
  * all that are. */
-static bool choose(struct tab_core *core, u32 c, struct task_struct *prev, s32 prev_id)
+static bool choose(struct tab_core *core, struct task_struct *prev, s32 prev_id)
 {
 	u32 plan = core->plan & 1, i;
-	struct tab_span *span = span_at(plan, c, core->at);
+	struct tab_span *span = span_of(core->key);
 	u64 runnable[WORDS];
 	s32 v;
 
@@ -327,7 +337,7 @@ void OPS(tab_dispatch, s32 cpu, struct task_struct *prev)
 		prev = NULL;
 	core->pick = NOBODY;
 	core->direct = 0;
-	if (choose(core, c, prev, prev_id))
+	if (choose(core, prev, prev_id))
 		return;
 	core->shared = 0;
 	if (scx_bpf_dsq_move_to_local(STRANGERS))

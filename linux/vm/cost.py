@@ -1,5 +1,5 @@
 #!/usr/bin/env python3
-"""cost.py ROOM: what job.cost counted: instructions of each BPF program, from a border's timer to the switch, of a wake."""
+"""cost.py ROOM: what job.cost counted: instructions of programs, from a border to the switch, of a wake."""
 import re
 import sys
 

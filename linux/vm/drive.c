@@ -1,9 +1,10 @@
 /* SPDX-License-Identifier: MIT OR GPL-2.0
- * drive loads FILE CPUS NAME=KIND..: makes a process for each vCPU, writes its `PID NAME` into FILE, and waits for its end.
- * KIND is spin, ext (it spins as a SCHED_EXT thread), or RUN:SLEEP in microseconds (of its own CPU time, then asleep).
- * CPUS is 1-N.
- * drive metro US: wakes each US microseconds. By instruction count QEMU lets a CPU run up to the next timer before the next
- * CPU comes, so this bounds how far the guest's CPUs are apart. */
+ * drive loads FILE CPUS NAME=KIND..: makes a process for each vCPU, writes its `PID NAME` into FILE, and
+ * waits for its end. KIND is spin, ext (it spins as a SCHED_EXT thread), or RUN:SLEEP in microseconds (of its
+ * own CPU time, then asleep). CPUS is 1-N.
+ * drive metro US: wakes each US microseconds. By instruction count QEMU lets a CPU run up to the next timer
+ * before the next CPU comes, so this bounds how far the guest's CPUs are apart.
+ */
 #define _GNU_SOURCE
 #include <sched.h>
 #include <signal.h>

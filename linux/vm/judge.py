@@ -1,10 +1,10 @@
 #!/usr/bin/env python3
-"""judge.py ROOM: what a guest wrote into ROOM/out, as judge's lines in ROOM/lines.csv, and how it kept to ROOM/tables.
+"""judge.py ROOM: what a guest wrote into ROOM/out, as lines of `judge`, and how it kept to ROOM/tables.
 
-Prints how late vCPUs that wanted to run got their slots, how many slots never began (`lost`), and how much of each core's
-time went as the table says, looked at each 10 us. With `--plain` it only makes the lines. The lines `pid PID NAME`,
-`loaded t0 T ..` and `tables .. count from round R` come before ftrace's text, which is in whole microseconds of the clock
-mono. Core 0 is CPU 1.
+The lines go to ROOM/lines.csv. Prints how late vCPUs that wanted to run got their slots, how many slots never
+began (`lost`), and how much of each core's time went as the table says, looked at each 10 us. With `--plain`
+it only makes the lines. The lines `pid PID NAME`, `loaded t0 T ..` and `tables .. count from round R` come
+before ftrace's text, which is in whole microseconds of the clock mono. Core 0 is CPU 1.
 """
 import bisect
 import os
