@@ -6,7 +6,7 @@ use std::time::Duration;
 // work: there a long wait is one for a thread that another program keeps from its processor.
 const PART: u32 = 2;
 
-const FREE: u64 = 10_000;
+const FREE: u64 = 20_000;
 
 // A phase that took so many times its time was late. On an idle machine 33 threads take less than twice theirs.
 const LATE: u32 = 4;
